@@ -1,0 +1,91 @@
+-- Laws of stores in lent memory, of answers and of short texts. Assumes nothing.
+use mathlib.Core.Path.{_≡_, refl, sym, ap, _∙_}
+use mathlib.Core.List.{List, [], _∷_, _++_, append-assoc, append-nil}
+use Prim.Native.Nat.{ℕ, zero, suc, _+_, _-_, _<_, _≤_}
+use native.Mathlib.Nat.{add-zero, zero-add, add-suc, suc-add}
+use native.Mathlib.Numerals.{add-one}
+use native.Mathlib.Omega.{arith}
+use lib.ListN.{length, getD, set, drop, take, length-append, length-drop, length-take, length-set}
+use lib.Seq.{sets, sets-eq, drop-cons, take-at, take-all, take-append-le, take-append-add, set-out, take-add}
+use Rattle.buffer.specs.Answer.{Answer, silent, over, Stored, Sent}
+use Rattle.buffer.specs.Text.{cut}
+use Rattle.buffer.specs.declared.Written.{Written}
+
+-- ---- stores
+
+-- one store more: what is left to store at i is the element at i, and what is left at i + 1
+pub sets-step : (m s : List ℕ) (o i : ℕ) → i < length s → sets m o (drop i s) ≡ sets (set m o (getD s i 0)) (o + 1) (drop (i + 1) s)
+sets-step m s o i h = rw (add-one i, add-one o, drop-cons s i 0)
+
+-- stores past the end change nothing
+pub sets-out : (m : List ℕ) (o : ℕ) (bs : List ℕ) → length m ≤ o → sets m o bs ≡ m
+sets-out m o [] h = refl
+sets-out m o (b ∷ bs) h = ap (λ (l : List ℕ). sets l (suc o) bs) (set-out m o b h) ∙ sets-out m (suc o) bs (omega arith)
+
+-- two runs of stores, the second where the first ends, are one
+pub sets-sets : (m : List ℕ) (at : ℕ) (a b : List ℕ) → sets (sets m at a) (at + length a) b ≡ sets m at (a ++ b)
+sets-sets m at [] b = ap (λ (k : ℕ). sets m k b) (add-zero at)
+sets-sets m at (x ∷ a) b = ap (λ (k : ℕ). sets (sets (set m at x) (suc at) a) k b) (add-suc at (length a) ∙ sym (suc-add at (length a))) ∙ sets-sets (set m at x) (suc at) a b
+
+-- a text stored, then another where it ends, is both stored; p is the place where the first ends
+pub then : {m m₁ m₂ a b : List ℕ} {at : ℕ} (p : ℕ) → Stored m at a m₁ → p ≡ at + length a → Stored m₁ p b m₂ → Stored m at (a ++ b) m₂
+then {m} {m₁} {m₂} {a} {b} {at} p f n g = record { memory = g .memory ∙ rw (f .memory, n) (sets-sets m at a b) }
+
+-- a text stored at the front, where it fits: the text, and then the memory as it was
+pub whole : {m m′ a : List ℕ} → Stored m 0 a m′ → length a ≤ length m → m′ ≡ over a m
+unfolding over
+whole {m} {m′} {a} f h = f .memory ∙ sets-eq a m 0 (omega arith) ∙ rw zero-add
+
+-- what the front of the memory then holds
+pub front : {m m′ a : List ℕ} (p : ℕ) → Stored m 0 a m′ → p ≡ length a → length a ≤ length m → take p m′ ≡ a
+unfolding over
+front {m} {m′} {a} p f n h = rw (whole f h) (take-at a (drop (length a) m) p (sym n))
+
+-- ---- answers
+
+-- a refusal with no reply leaves the memory as it was
+pub refuses : (m : List ℕ) (k : ℕ) {a : Answer} → a ≡ silent k → Sent m a m (record { number = k; len = 0 })
+unfolding over
+refuses m k e = rw e (record { number = refl; len = refl; memory = refl })
+
+-- a reply stored at the front, where it fits
+pub sends : {m m′ t : List ℕ} {a : Answer} (k r : ℕ) → a ≡ record { number = k; reply = t } → Stored m 0 t m′ → r ≡ length t → length t ≤ length m
+    → Sent m a m′ (record { number = k; len = r })
+sends k r e f n h = rw e (record { number = refl; len = n; memory = whole f h })
+
+-- ---- lists
+
+-- for every loop that reads a slice from the front: what is left at i is the element at i, and what is left at i + 1
+pub drop-step : (s : List ℕ) (i : ℕ) → i < length s → drop i s ≡ getD s i 0 ∷ drop (i + 1) s
+drop-step s i h = rw (add-one i, drop-cons s i 0)
+
+-- a part to the end of a slice
+pub part-rest : (s : List ℕ) (a : ℕ) → take (length s - a) (drop a s) ≡ drop a s
+part-rest s a = take-all (length s - a) (drop a s) (simp length-drop (omega arith))
+
+-- as many as a part has, taken from the whole, is the part
+pub take-taken : (n : ℕ) (l : List ℕ) → take (length (take n l)) l ≡ take n l
+take-taken zero l = refl
+take-taken (suc n) [] = refl
+take-taken (suc n) (x ∷ l) = ap (λ (r : List ℕ). x ∷ r) (take-taken n l)
+
+-- ---- short texts
+
+-- what was cut is cut no further by what follows it
+pub cut-cut : (a b : List ℕ) → cut (cut a ++ b) ≡ cut (a ++ b)
+unfolding cut
+cut-cut a b = cuts 24 a b
+  where
+    cuts : (n : ℕ) (x y : List ℕ) → take n (take n x ++ y) ≡ take n (x ++ y)
+    cuts zero [] y = refl
+    cuts (suc n) [] y = refl
+    cuts zero (z ∷ x) y = refl
+    cuts (suc n) (z ∷ x) y = ap (λ (l : List ℕ). z ∷ l) (cuts n x y)
+
+pub cut-again : (a : List ℕ) → cut (cut a) ≡ cut a
+cut-again a = rw (append-nil (cut a), append-nil a) at (cut-cut a [])
+
+-- a text that fits is not cut
+pub cut-fits : (a : List ℕ) → length a ≤ 24 → cut a ≡ a
+unfolding cut
+cut-fits a h = take-all 24 a h

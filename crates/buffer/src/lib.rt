@@ -1,0 +1,85 @@
+// Bytes written into lent memory, and short texts by value. Every writer of the project uses these functions.
+ghost use mathlib.Core.Path.{_≡_};
+ghost use mathlib.Core.List.{[], _∷_, _++_};
+ghost use lib.ListN.{length};
+ghost use Rattle.buffer.specs.Answer.{Stored};
+ghost use Rattle.buffer.specs.Text.{textOf, cut};
+
+// An answer's number, and the length of its reply.
+pub struct Written {
+    pub number: u16,
+    pub len: usize,
+}
+
+// Stores src from place `at` on. What would fall past the end is left out.
+pub fn put(out: &mut [u8], at: usize, src: &[u8])
+    ensures { λ r. ⌜ Stored (now (out .entry)) at (now (src .entry)) (now (out .exit)) ⌝ }
+{
+    let mut i: usize = 0;
+    while i < src.len() {
+        if out.len() - i <= at {
+            return;
+        }
+        out[at + i] = src[i];
+        i += 1;
+    }
+}
+
+// A short text: the first len of its bytes.
+pub struct Text {
+    pub bytes: [u8; 24],
+    pub len: usize,
+}
+
+impl Text {
+    pub const EMPTY: Text = Text {
+        bytes: [0, 0, 0, 0, 0, 0, 0, 0, 0, 0, 0, 0, 0, 0, 0, 0, 0, 0, 0, 0, 0, 0, 0, 0],
+        len: 0,
+    };
+
+    // The text and one character more. A full text stays as it is.
+    pub fn push(mut self, b: u8) -> Text
+        ensures { λ r. ⌜ textOf r ≡ cut (textOf self ++ (b ∷ [])) ⌝ }
+    {
+        let at = self.len;
+        if 24 <= at {
+            return self;
+        }
+        self.bytes[at] = b;
+        self.len = at + 1;
+        self
+    }
+
+    // The text and then all of src, as far as it holds them.
+    pub fn add(self, src: &[u8]) -> Text
+        ensures { λ r. ⌜ textOf r ≡ cut (textOf self ++ now (src .entry)) ⌝ }
+    {
+        let mut t = self;
+        let mut i: usize = 0;
+        while i < src.len() {
+            t = t.push(src[i]);
+            i += 1;
+        }
+        t
+    }
+
+    // How many characters the text has.
+    pub fn size(self) -> usize
+        ensures { λ r. ⌜ r ≡ length (textOf self) ⌝ }
+    {
+        let n = self.len;
+        if n < 24 {
+            return n;
+        }
+        24
+    }
+}
+
+// Stores a text from place `at` on.
+pub fn put_text(out: &mut [u8], at: usize, t: Text)
+    ensures { λ r. ⌜ Stored (now (out .entry)) at (textOf t) (now (out .exit)) ⌝ }
+{
+    let n = t.size();
+    let bytes = t.bytes;
+    put(out, at, &bytes[..n]);
+}

@@ -1,13 +1,14 @@
 -- Laws of stores in lent memory, of answers and of short texts. Assumes nothing.
 use mathlib.Core.Path.{_≡_, refl, sym, ap, _∙_}
 use mathlib.Core.List.{List, [], _∷_, _++_, append-assoc, append-nil}
-use Prim.Native.Nat.{ℕ, zero, suc, _+_, _-_, _<_, _≤_}
-use native.Mathlib.Nat.{add-zero, zero-add, add-suc, suc-add}
+use Prim.Native.Nat.{ℕ, zero, suc, _+_, _-_, _*_, _^_, _<_, _≤_}
+use native.Mathlib.Nat.{add-zero, zero-add, add-suc, suc-add, pow-suc, pow-le-pow-right}
 use native.Mathlib.Numerals.{add-one}
 use native.Mathlib.Omega.{arith}
 use lib.ListN.{length, getD, set, drop, take, length-append, length-drop, length-take, length-set}
 use lib.Seq.{sets, sets-eq, drop-cons, take-at, take-all, take-append-le, take-append-add, set-out, take-add}
 use Rattle.buffer.specs.Answer.{Answer, silent, over, Stored, Sent}
+use Rattle.buffer.specs.Byte.{numeralFrom}
 use Rattle.buffer.specs.Text.{cut}
 use Rattle.buffer.specs.declared.Written.{Written}
 
@@ -68,6 +69,22 @@ pub take-taken : (n : ℕ) (l : List ℕ) → take (length (take n l)) l ≡ tak
 take-taken zero l = refl
 take-taken (suc n) [] = refl
 take-taken (suc n) (x ∷ l) = ap (λ (r : List ℕ). x ∷ r) (take-taken n l)
+
+-- ---- numerals
+
+-- the character at i, of at most n, and what is left of them at i + 1
+pub numeral-step : (s : List ℕ) (v i n : ℕ) → i < length s → i < n
+    → numeralFrom v (take (n - i) (drop i s)) ≡ numeralFrom (v * 10 + (getD s i 0 - 48)) (take (n - (i + 1)) (drop (i + 1) s))
+unfolding numeralFrom
+numeral-step s v i n h k =
+    let e : n - i ≡ suc (n - (i + 1)) = omega arith in
+    rw (e, drop-step s i h)
+
+pub ten-step : (i : ℕ) → 10 ^ (i + 1) ≡ 10 ^ i * 10
+ten-step i = rw add-one (pow-suc 10 i)
+
+pub ten-max : (i n : ℕ) → i ≤ n → 10 ^ i ≤ 10 ^ n
+ten-max i n h = pow-le-pow-right {n = 10} (omega arith) h
 
 -- ---- short texts
 

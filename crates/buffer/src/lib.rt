@@ -1,8 +1,10 @@
 // Bytes written into lent memory, and short texts by value. Every writer of the project uses these functions.
 ghost use mathlib.Core.Path.{_≡_};
 ghost use mathlib.Core.List.{[], _∷_, _++_};
-ghost use lib.ListN.{length};
+ghost use lib.ListN.{length, take};
+ghost use Prim.Native.Nat.{_<_, _-_};
 ghost use Rattle.buffer.specs.Answer.{Stored};
+ghost use Rattle.buffer.specs.Byte.{within, every, numeral};
 ghost use Rattle.buffer.specs.Text.{textOf, cut};
 
 // An answer's number, and the length of its reply.
@@ -82,4 +84,51 @@ pub fn put_text(out: &mut [u8], at: usize, t: Text)
     let n = t.size();
     let bytes = t.bytes;
     put(out, at, &bytes[..n]);
+}
+
+// Whether low <= b <= high.
+pub fn is_within(b: u8, low: u8, high: u8) -> bool
+    ensures { λ r. ⌜ r ≡ within low high b ⌝ }
+{
+    low <= b && b <= high
+}
+
+// Whether each byte of s is from low to high.
+pub fn all_within(s: &[u8], low: u8, high: u8) -> bool
+    ensures { λ r. ⌜ r ≡ every (within low high) (now (s .entry)) ⌝ }
+{
+    let mut i: usize = 0;
+    while i < s.len() {
+        if !is_within(s[i], low, high) {
+            return false;
+        }
+        i += 1;
+    }
+    true
+}
+
+// What a digit stands for. Below `0` it is 0.
+fn value(b: u8) -> u32
+    ensures { λ r. ⌜ r ≡ b - 48 ⌝ }
+{
+    if b < 48 {
+        return 0;
+    }
+    (b - 48) as u32
+}
+
+// The number that the first six characters of s spell.
+pub fn numeral_of(s: &[u8]) -> u32
+    ensures { λ r. ⌜ r ≡ numeral (take 6 (now (s .entry))) ⌝ }
+{
+    let mut v: u32 = 0;
+    let mut i: usize = 0;
+    while i < s.len() {
+        if 6 <= i {
+            return v;
+        }
+        v = v * 10 + value(s[i]);
+        i += 1;
+    }
+    v
 }

@@ -1,0 +1,43 @@
+-- Bytes and lists of bytes. Assumes nothing.
+use mathlib.Core.Bool.{Bool, true, false, _&&_, _||_}
+use mathlib.Core.List.{List, [], _∷_}
+use Prim.Native.Nat.{ℕ, _+_, _-_, _*_, _/_, _%_}
+use lib.Dec.{leb}
+use lib.ListN.{getD}
+
+-- the byte at place i, and 0 past the end
+abbrev pub at : List ℕ → ℕ → ℕ
+at s i = getD s i 0
+
+-- from low to high, both included
+unfoldable pub within : ℕ → ℕ → ℕ → Bool
+within low high n = leb low n && leb n high
+
+-- `0` to `9`
+abbrev pub isDigit : ℕ → Bool
+isDigit b = within 48 57 b
+
+-- whether p holds of each element
+unfoldable pub every : (ℕ → Bool) → List ℕ → Bool
+every p [] = true
+every p (x ∷ xs) = p x && every p xs
+
+-- the number that a list of digits spells, after v
+unfoldable pub numeralFrom : ℕ → List ℕ → ℕ
+numeralFrom v [] = v
+numeralFrom v (x ∷ xs) = numeralFrom (v * 10 + (x - 48)) xs
+
+-- the number that a list of digits spells
+abbrev pub numeral : List ℕ → ℕ
+numeral s = numeralFrom 0 s
+
+-- the last digit of n as a character
+abbrev pub digit : ℕ → ℕ
+digit n = n % 10 + 48
+
+-- n as two digits, and as three
+abbrev pub digits2 : ℕ → List ℕ
+digits2 n = digit (n / 10) ∷ digit n ∷ []
+
+abbrev pub digits3 : ℕ → List ℕ
+digits3 n = digit (n / 100) ∷ digits2 n

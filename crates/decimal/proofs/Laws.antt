@@ -1,0 +1,76 @@
+-- Laws of the digits at the front of a text, and of the numbers that digits spell. Assumes nothing.
+use mathlib.Core.Path.{_≡_, refl, sym, ap, _∙_}
+use mathlib.Core.Bool.{Bool, true, false, cond, _&&_, true≢false}
+use mathlib.Core.List.{List, [], _∷_, _++_}
+use Prim.Native.Nat.{ℕ, zero, suc, _+_, _-_, _*_, _^_, _<_, _≤_}
+use native.Mathlib.Nat.{pow-suc, mul-le-mul-right, mul-assoc, mul-comm}
+use native.Mathlib.Numerals.{add-one}
+use native.Mathlib.Omega.{arith}
+use borrow.Author.Tests.{leb-true, eqb-false}
+use lib.Dec.{leb, eqb, eqb·zero-suc}
+use lib.ListN.{length, getD, take, drop, length-take, drop-of-length-le}
+use lib.Seq.{take-all}
+use Rattle.buffer.specs.Byte.{within, isDigit, every, numeralFrom, numeral}
+use Rattle.buffer.proofs.Laws.{drop-step, ten-step, ten-max}
+use Rattle.decimal.specs.Form.{leading, startsWith}
+
+-- ---- the digits at the front
+
+pub leading-step : (s : List ℕ) (i : ℕ) → i < length s → leading (drop i s) ≡ cond (isDigit (getD s i 0)) (leading (drop (i + 1) s) + 1) 0
+unfolding leading
+leading-step s i h = ap leading (drop-step s i h)
+
+pub leading-end : (s : List ℕ) (i : ℕ) → length s ≤ i → leading (drop i s) ≡ 0
+unfolding leading
+leading-end s i h = ap leading (drop-of-length-le s h)
+
+pub leading-le : (s : List ℕ) → leading s ≤ length s
+unfolding leading
+leading-le [] = omega arith
+leading-le (x ∷ s) = go (isDigit x) (leading-le s)
+  where
+    go : (b : Bool) → leading s ≤ length s → cond b (leading s + 1) 0 ≤ suc (length s)
+    go true h = omega arith
+    go false h = omega arith
+
+-- a digit stands for 0 to 9
+pub digit-low : (x : ℕ) → isDigit x ≡ true → x - 48 < 10
+unfolding within
+digit-low x e = go (leb 48 x) e
+  where
+    go : (b : Bool) → (b && leb x 57) ≡ true → x - 48 < 10
+    go true h = omega (arith, leb-true x 57 h)
+    go false h = let z : _≡_ {A = ℕ} 0 1 = cc in omega arith
+
+tens : (v p : ℕ) → (v * 10 + 10) * p ≡ (v + 1) * (p * 10)
+tens v p =
+    let e : v * 10 + 10 ≡ (v + 1) * 10 = omega arith in
+    rw e (mul-assoc (v + 1) 10 p ∙ ap (λ (k : ℕ). (v + 1) * k) (mul-comm 10 p))
+
+-- n leading digits spell a number below 10 ^ n
+pub numeral-front : (s : List ℕ) (v n : ℕ) → n ≤ leading s → numeralFrom v (take n s) < (v + 1) * 10 ^ n
+unfolding numeralFrom leading
+numeral-front s v zero h = omega arith
+numeral-front [] v (suc n) h = omega arith
+numeral-front (x ∷ s) v (suc n) h = go (isDigit x) refl h (numeral-front s (v * 10 + (x - 48)) n)
+  where
+    go : (b : Bool) → isDigit x ≡ b → suc n ≤ cond b (leading s + 1) 0
+        → (n ≤ leading s → numeralFrom (v * 10 + (x - 48)) (take n s) < (v * 10 + (x - 48) + 1) * 10 ^ n)
+        → numeralFrom (v * 10 + (x - 48)) (take n s) < (v + 1) * 10 ^ suc n
+    go true e k ih =
+        let m : (v * 10 + (x - 48) + 1) * 10 ^ n ≤ (v * 10 + 10) * 10 ^ n = mul-le-mul-right (10 ^ n) (omega (arith, digit-low x e)) in
+        rw (pow-suc 10 n, ← (tens v (10 ^ n))) (omega (arith, ih (omega arith), m))
+    go false e k ih = omega arith
+
+-- at most six leading digits are all that `numeral_of` reads
+pub six : (s : List ℕ) (n : ℕ) → n ≤ 6 → take 6 (take n s) ≡ take n s
+six s n h = take-all 6 (take n s) (simp length-take (omega arith))
+
+pub numeral-low : (s : List ℕ) (n : ℕ) → n ≤ leading s → n ≤ 6 → numeral (take 6 (take n s)) < 10 ^ n
+numeral-low s n h k = rw (six s n k) (omega (arith, numeral-front s 0 n h))
+
+-- a text that starts with some character is not empty
+pub starts-some : (b : ℕ) (s : List ℕ) → startsWith (suc b) s ≡ true → 1 ≤ length s
+unfolding startsWith
+starts-some b [] h = absurd (true≢false (sym h ∙ eqb·zero-suc b))
+starts-some b (x ∷ s) h = omega arith

@@ -1,0 +1,46 @@
+-- `decimal::count_digits` meets its contract. The invariant: i digits and those that lead what is left are all that lead. Assumes nothing.
+use mathlib.Core.Path.{_≡_, refl, sym, ap, _∙_}
+use Prim.Native.Nat.{ℕ, _+_, _-_, _≤_}
+use native.Mathlib.Omega.{arith}
+use borrow.Author.Needs.{needs}
+use borrow.Author.Tests.{not-true, not-false}
+use lib.ListN.{length, drop}
+use Rattle.decimal.specs.Form.{leading}
+use Rattle.decimal.proofs.Laws.{leading-step, leading-end}
+use Rattle.decimal.proofs.count_digits.Statement.{statement}
+use Rattle.decimal.proofs.count_digits.Tie as tie
+
+abbrev Inv-loop : tie.InvT-loop
+Inv-loop s i₀ i = (i ≤ length s) × (i + leading (drop i s) ≡ leading s)
+
+abbrev μ-loop : tie.MeasureT-loop
+μ-loop s i₀ i = length s - i
+
+returns : tie.Need-returns Inv-loop μ-loop
+returns c =
+    let l = c .before .before .before .before .loop in
+    let s = c .before .before .before .before .before .before .args .s .now in
+    let e = rw (sym (c .before .is-within .ensures) ∙ not-true _ (c .if1 .taken)) at (leading-step s (l .i) (omega arith)) in
+    omega (arith, e)
+
+loop-again : tie.Need-loop-again Inv-loop μ-loop
+loop-again c =
+    let l = c .before .before .before .before .loop in
+    let s = c .before .before .before .before .before .before .args .s .now in
+    let e = rw (sym (c .before .is-within .ensures) ∙ not-false _ (c .if1 .left)) at (leading-step s (l .i) (omega arith)) in
+    (omega arith, omega (arith, e))
+
+pub count-digits-spec : {M : Type 1} → statement M
+count-digits-spec =
+    tie.close
+    (tie.spec
+    Inv-loop
+    μ-loop
+    (λ c. (omega arith, omega arith))
+    (λ c. omega arith)
+    (λ c κs. search needs)
+    returns
+    (λ c. omega arith)
+    (λ c. omega arith)
+    loop-again
+    (λ c. omega (arith, leading-end (c .before .before .before .args .s .now) (c .before .loop .i) (omega arith))))

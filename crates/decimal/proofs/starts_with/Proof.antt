@@ -1,0 +1,19 @@
+-- `decimal::starts_with` meets its contract. Assumes nothing.
+use Rattle.buffer.proofs.Rules.{rules}
+use borrow.Author.Needs.{needs}
+use Rattle.decimal.specs.Form.{startsWith}
+use mathlib.Core.Path.{_≡_, refl, sym, ap, _∙_}
+use lib.ListN.{List·getD-eq-default}
+use native.Mathlib.Omega.{arith}
+use lib.Dec.{eqb}
+use Prim.Native.Nat.{ℕ}
+use Rattle.decimal.proofs.starts_with.Statement.{statement}
+use Rattle.decimal.proofs.starts_with.Tie as tie
+
+returns : tie.Need-returns
+unfolding startsWith
+returns c = rw (List·getD-eq-default (c .before .args .s .now) 0 {n = 0} (omega arith))
+
+pub starts-with-spec : {M : Type 1} → statement M
+unfolding startsWith
+starts-with-spec = tie.close (tie.spec returns (λ c. search needs) (λ c. search rules))

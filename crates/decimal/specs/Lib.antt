@@ -1,0 +1,4 @@
+-- Document 01, "Decimal numbers".
+pub mod Exact
+pub mod Form
+pub mod Number

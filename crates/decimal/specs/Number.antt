@@ -1,0 +1,39 @@
+-- Numbers by value. Assumes nothing.
+use mathlib.Core.Bool.{Bool, true, false, cond, not}
+use mathlib.Core.List.{[], _∷_}
+use mathlib.Core.Path.{_≡_}
+use mathlib.Core.Logic.{_⊎_}
+use Prim.Native.Nat.{ℕ, _+_, _*_, _/_, _%_, _^_, _≤_}
+use lib.Dec.{ltb, leb, eqb}
+use Rattle.buffer.specs.First.{Row, _⇒_, first}
+use Rattle.decimal.specs.Exact.{units}
+use Rattle.decimal.specs.declared.Number.{Number}
+use Rattle.decimal.specs.declared.Hundredths.{Hundredths}
+use Rattle.decimal.specs.declared.Hundredths.the-variants.{Whole, Other}
+
+-- a number's value is plus - minus, in 10^-14: one of the two is 0
+unfoldable pub plus : Number → ℕ
+plus n = cond (n .negative) 0 (units n)
+
+unfoldable pub minus : Number → ℕ
+minus n = cond (n .negative) (units n) 0
+
+-- a's value is below b's
+unfoldable pub belowOf : Number → Number → Bool
+belowOf a b = ltb (plus a + minus b) (plus b + minus a)
+
+-- a and b have the same value
+unfoldable pub sameValue : Number → Number → Bool
+sameValue a b = eqb (plus a + minus b) (plus b + minus a)
+
+-- a count of hundredths, where they are fewer than 100000
+unfoldable pub countedOf : ℕ → Hundredths
+countedOf h = first (leb 100000 h ⇒ Other ∷ []) (Whole h)
+
+-- how many hundredths a number's size is, where they are whole and fewer than 100000
+unfoldable pub hundredthsOf : Number → Hundredths
+hundredthsOf n = first (not (eqb (units n % 10 ^ 12) 0) ⇒ Other ∷ []) (countedOf (units n / 10 ^ 12))
+
+-- r is m * 10 ^ d, or both are beyond a u32
+abbrev pub Scaled : ℕ → ℕ → ℕ → Type 0
+Scaled m d r = (r ≡ m * 10 ^ d) ⊎ ((4294967296 ≤ r) × (4294967296 ≤ m * 10 ^ d))

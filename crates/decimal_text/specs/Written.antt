@@ -1,5 +1,5 @@
 -- Document 01, "Decimal numbers": the texts that are sent. Assumes nothing.
-use mathlib.Core.Bool.{Bool, true, false, cond, not, _&&_}
+use mathlib.Core.Bool.{Bool, true, false, cond, _&&_}
 use mathlib.Core.List.{List, [], _∷_, _++_}
 use Prim.Native.Nat.{ℕ, _+_, _-_, _/_, _%_}
 use lib.Dec.{ltb, eqb}
@@ -45,4 +45,4 @@ wholeText n = first (ltb n 10 ⇒ (digit n ∷ []) ∷ ltb n 100 ⇒ digits2 n �
 
 -- "with two decimals and no needless leading zero". "`-0` is zero."
 unfoldable pub twoDecimals : Bool → ℕ → List ℕ
-twoDecimals negative h = signText (negative && not (eqb h 0)) ++ wholeText (h / 100) ++ (46 ∷ []) ++ digits2 h
+twoDecimals negative h = cond (eqb h 0) [] (signText negative) ++ wholeText (h / 100) ++ (46 ∷ []) ++ digits2 h

@@ -1,6 +1,8 @@
 // Decimal numbers as they are sent (document 01, "Decimal numbers"): the written form, and the form with two decimals.
 ghost use mathlib.Core.Path.{_≡_};
 ghost use mathlib.Core.List.{[], _∷_, _++_};
+ghost use mathlib.Core.Bool.{cond};
+ghost use lib.Dec.{eqb};
 ghost use lib.ListN.{length};
 ghost use Rattle.buffer.specs.Text.{textOf, cut};
 ghost use Rattle.decimal_text.specs.Written.{signText, trimmed, pointed, digits5, exponentText, writtenOf, wholeText, twoDecimals};
@@ -91,11 +93,21 @@ fn with_whole(t: buffer::Text, n: u16) -> buffer::Text
         .push((n % 10) as u8 + 48)
 }
 
+// The sign of a count of hundredths: none of zero.
+fn signed(negative: bool, hundredths: u16) -> buffer::Text
+    ensures { λ r. ⌜ textOf r ≡ cond (eqb hundredths 0) [] (signText negative) ⌝ }
+{
+    if hundredths == 0 {
+        return buffer::Text::EMPTY;
+    }
+    sign(negative)
+}
+
 // Hundredths with two decimals and no needless leading zero.
 pub fn two_decimals(negative: bool, hundredths: u16) -> buffer::Text
     ensures { λ r. ⌜ textOf r ≡ twoDecimals negative hundredths ⌝ }
 {
-    let t = with_whole(sign(negative && hundredths != 0), hundredths / 100);
+    let t = with_whole(signed(negative, hundredths), hundredths / 100);
     t.push(b'.')
         .push((hundredths / 10 % 10) as u8 + 48)
         .push((hundredths % 10) as u8 + 48)

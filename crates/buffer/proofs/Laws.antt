@@ -2,11 +2,11 @@
 use mathlib.Core.Path.{_≡_, refl, sym, ap, _∙_}
 use mathlib.Core.List.{List, [], _∷_, _++_, append-assoc, append-nil}
 use Prim.Native.Nat.{ℕ, zero, suc, _+_, _-_, _*_, _^_, _<_, _≤_}
-use native.Mathlib.Nat.{add-zero, zero-add, add-suc, suc-add, pow-suc, pow-le-pow-right}
+use native.Mathlib.Nat.{add-zero, zero-add, add-suc, suc-add, pow-suc, pow-le-pow-right, sub-zero, zero-sub, suc-sub-suc}
 use native.Mathlib.Numerals.{add-one}
 use native.Mathlib.Omega.{arith}
 use lib.ListN.{length, getD, set, drop, take, length-append, length-drop, length-take, length-set}
-use lib.Seq.{sets, sets-eq, drop-cons, take-at, take-all, take-append-le, take-append-add, set-out, take-add}
+use lib.Seq.{sets, sets-eq, drop-cons, take-at, take-all, take-append-le, take-append-add, set-out, take-nil}
 use Rattle.buffer.specs.Answer.{Answer, silent, over, Stored, Sent}
 use Rattle.buffer.specs.Byte.{numeralFrom}
 use Rattle.buffer.specs.Text.{cut}
@@ -64,6 +64,13 @@ drop-step s i h = rw (add-one i, drop-cons s i 0)
 pub part-rest : (s : List ℕ) (a : ℕ) → take (length s - a) (drop a s) ≡ drop a s
 part-rest s a = take-all (length s - a) (drop a s) (simp length-drop (omega arith))
 
+-- a part in the middle of a slice
+pub part-middle : (a e : ℕ) (s : List ℕ) → take (e - a) (drop a s) ≡ drop a (take e s)
+part-middle zero e s = rw sub-zero
+part-middle (suc a) e [] = rw (take-nil e, take-nil (e - suc a))
+part-middle (suc a) zero (x ∷ s) = rw zero-sub
+part-middle (suc a) (suc e) (x ∷ s) = rw suc-sub-suc (part-middle a e s)
+
 -- as many as a part has, taken from the whole, is the part
 pub take-taken : (n : ℕ) (l : List ℕ) → take (length (take n l)) l ≡ take n l
 take-taken zero l = refl
@@ -88,16 +95,15 @@ ten-max i n h = pow-le-pow-right {n = 10} (omega arith) h
 
 -- ---- short texts
 
--- what was cut is cut no further by what follows it
+-- what was taken is cut no further by what follows it
+pub take-cut : (n : ℕ) (x y : List ℕ) → take n (take n x ++ y) ≡ take n (x ++ y)
+take-cut zero x y = refl
+take-cut (suc n) [] y = refl
+take-cut (suc n) (z ∷ x) y = ap (λ (l : List ℕ). z ∷ l) (take-cut n x y)
+
 pub cut-cut : (a b : List ℕ) → cut (cut a ++ b) ≡ cut (a ++ b)
 unfolding cut
-cut-cut a b = cuts 24 a b
-  where
-    cuts : (n : ℕ) (x y : List ℕ) → take n (take n x ++ y) ≡ take n (x ++ y)
-    cuts zero [] y = refl
-    cuts (suc n) [] y = refl
-    cuts zero (z ∷ x) y = refl
-    cuts (suc n) (z ∷ x) y = ap (λ (l : List ℕ). z ∷ l) (cuts n x y)
+cut-cut a b = take-cut 24 a b
 
 pub cut-again : (a : List ℕ) → cut (cut a) ≡ cut a
 cut-again a = rw (append-nil (cut a), append-nil a) at (cut-cut a [])

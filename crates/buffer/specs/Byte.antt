@@ -18,7 +18,7 @@ abbrev pub isDigit : ℕ → Bool
 isDigit b = within 48 57 b
 
 -- whether p holds of each element
-unfoldable pub every : (ℕ → Bool) → List ℕ → Bool
+unfoldable pub every : {A : Type 0} → (A → Bool) → List A → Bool
 every p [] = true
 every p (x ∷ xs) = p x && every p xs
 

@@ -1,7 +1,7 @@
 // Bytes written into lent memory, and short texts by value. Every writer of the project uses these functions.
 ghost use mathlib.Core.Path.{_≡_};
 ghost use mathlib.Core.List.{[], _∷_, _++_};
-ghost use lib.ListN.{length, take};
+ghost use lib.ListN.{length, take, drop};
 ghost use Prim.Native.Nat.{_<_, _-_};
 ghost use Rattle.buffer.specs.Answer.{Stored};
 ghost use Rattle.buffer.specs.Byte.{within, every, numeral};
@@ -131,4 +131,14 @@ pub fn numeral_of(s: &[u8]) -> u32
         i += 1;
     }
     v
+}
+
+// What is left of s from place a on.
+pub fn rest<'a>(s: &'a [u8], a: usize) -> &'a [u8]
+    ensures { λ r. ⌜ now r ≡ drop a (now (s .entry)) ⌝ }
+{
+    if s.len() < a {
+        return &s[..0];
+    }
+    &s[a..]
 }

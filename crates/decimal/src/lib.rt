@@ -151,14 +151,6 @@ pub fn starts_with(s: &[u8], b: u8) -> bool
     s[0] == b
 }
 
-// What is left of s from place a on.
-fn rest<'a>(s: &'a [u8], a: usize) -> &'a [u8]
-    requires { ⌜ a ≤ length (now s) ⌝ }
-    ensures { λ r. ⌜ now r ≡ drop a (now (s .entry)) ⌝ }
-{
-    &s[a..]
-}
-
 // The number that the first n characters spell, which are digits.
 fn spelled(s: &[u8], n: usize) -> u32
     requires { ⌜ (n ≤ 6) × (n ≤ leading (now s)) ⌝ }
@@ -221,9 +213,9 @@ fn exponent(s: &[u8], x: Exact) -> Scan
     if !is_marked(s) {
         return Scan::NoForm;
     }
-    let t = rest(s, 1);
+    let t = buffer::rest(s, 1);
     if starts_with(t, b'-') {
-        return power(rest(t, 1), x, true);
+        return power(buffer::rest(t, 1), x, true);
     }
     power(t, x, false)
 }
@@ -248,7 +240,7 @@ fn fraction(s: &[u8], x: Exact, n: usize) -> Scan
         up: 0,
         down: k as u8,
     };
-    exponent(rest(s, k), all)
+    exponent(buffer::rest(s, k), all)
 }
 
 fn unsigned(s: &[u8], negative: bool) -> Scan
@@ -267,9 +259,9 @@ fn unsigned(s: &[u8], negative: bool) -> Scan
         up: 0,
         down: 0,
     };
-    let t = rest(s, n);
+    let t = buffer::rest(s, n);
     if starts_with(t, b'.') {
-        return fraction(rest(t, 1), x, n);
+        return fraction(buffer::rest(t, 1), x, n);
     }
     exponent(t, x)
 }
@@ -279,7 +271,7 @@ pub fn read_exact(s: &[u8]) -> Scan
     ensures { λ r. ⌜ r ≡ scanOf (now (s .entry)) ⌝ }
 {
     if starts_with(s, b'-') {
-        return unsigned(rest(s, 1), true);
+        return unsigned(buffer::rest(s, 1), true);
     }
     unsigned(s, false)
 }

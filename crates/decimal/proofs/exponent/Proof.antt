@@ -46,7 +46,7 @@ exponent-spec =
     returns-2
     (λ c κs. search needs)
     (λ c κs. search needs)
-    (λ c κs. starts-some 44 _ (sym (c .before .starts-with .ensures) ∙ c .if3 .taken))
+    (λ c κs. search needs)
     (λ c κs. search needs)
     returns-3
     (λ c κs. search needs)

@@ -46,6 +46,6 @@ fraction-spec =
     (λ c. omega (arith, low c))
     (λ c. omega (arith, low c))
     (λ c. search needs)
-    (λ c κs. omega (arith, c .before .before .before .before .before .count-digits .ensures, leading-le (c .before .before .before .before .before .before .before .args .s .now)))
+    (λ c κs. search needs)
     (λ c κs. search needs)
     returns-3)

@@ -13,7 +13,7 @@ read-exact-spec =
     tie.close
     (tie.spec
     (λ c κs. search needs)
-    (λ c κs. starts-some 44 _ (sym (c .before .starts-with .ensures) ∙ c .if1 .taken))
+    (λ c κs. search needs)
     (λ c κs. search needs)
     (λ c. rw (← (c .before .rest .ensures), sym (c .before .before .before .starts-with .ensures) ∙ c .before .before .if1 .taken) (c .unsigned .ensures))
     (λ c κs. search needs)

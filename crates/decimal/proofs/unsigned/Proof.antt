@@ -44,9 +44,9 @@ unsigned-spec =
     (λ c. rw (← (c .before .count-digits .ensures)) (search rules depth 20))
     (λ c. rw (← (c .before .before .count-digits .ensures)) (search rules depth 20))
     (λ c κs. search needs)
-    (λ c κs. omega (arith, c .before .before .before .count-digits .ensures, leading-le (c .before .before .before .before .before .args .s .now)))
     (λ c κs. search needs)
-    (λ c κs. starts-some 45 _ (sym (c .before .starts-with .ensures) ∙ c .if3 .taken))
+    (λ c κs. search needs)
+    (λ c κs. search needs)
     (λ c κs. search needs)
     returns-3
     (λ c κs. search needs)

@@ -1,0 +1,9 @@
+-- `frames::is_address` meets its contract. Assumes nothing.
+use Rattle.buffer.specs.Byte.{within}
+use Rattle.buffer.proofs.Rules.{tests}
+use Rattle.frames.proofs.is_address.Statement.{statement}
+use Rattle.frames.proofs.is_address.Tie as tie
+
+pub is-address-spec : {M : Type 1} → statement M
+unfolding within
+is-address-spec = tie.close (tie.spec (λ c. search tests) (λ c. search tests))

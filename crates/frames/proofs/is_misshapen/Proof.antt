@@ -1,0 +1,34 @@
+-- `frames::is_misshapen` meets its contract. Assumes nothing.
+use mathlib.Core.Path.{sym, _∙_}
+use Prim.Native.Nat.{_≤_}
+use native.Mathlib.Omega.{arith}
+use borrow.Author.Needs.{needs}
+use borrow.Author.Tests.{not-false}
+use lib.ListN.{length, length-take}
+use Rattle.buffer.proofs.Rules.{rules}
+use Rattle.frames.specs.Frame.{misshapen}
+use Rattle.frames.proofs.Laws.{flags, fits}
+use Rattle.frames.proofs.is_misshapen.Statement.{statement}
+use Rattle.frames.proofs.is_misshapen.Tie as tie
+
+six : (c : tie.Else1) → 6 ≤ length (c .before .before .before .args .s .now)
+six c = fits (c .before .before .before .args .s .now) (sym (c .before .length-fits .ensures) ∙ not-false _ (c .if1 .left)) .six
+
+pub is-misshapen-spec : {M : Type 1} → statement M
+unfolding misshapen
+is-misshapen-spec =
+    tie.close
+    (tie.spec
+    (λ c κs. search needs)
+    (λ c. search (rules, flags) depth 24)
+    (λ c. omega (arith, six c))
+    (λ c. omega (arith, six (c .before)))
+    (λ c. search (rules, flags) depth 24)
+    (λ c. omega (arith, six (c .before .before)))
+    (λ c. omega (arith, six (c .before .before .before)))
+    (λ c. search (rules, flags) depth 24)
+    (λ c. omega (arith, six (c .before .before .before .before)))
+    (λ c. simp length-take (omega (arith, six (c .before .before .before .before .before))))
+    (λ c κs. search needs)
+    (λ c. search (rules, flags) depth 24)
+    (λ c. search (rules, flags) depth 24))

@@ -1,0 +1,22 @@
+-- `frames::write_error_v2` meets its contract. Assumes nothing.
+use borrow.Author.Needs.{needs}
+use Rattle.frames.specs.Error.{errorHeadV2}
+use Rattle.frames.proofs.write_error_v2.Statement.{statement}
+use Rattle.frames.proofs.write_error_v2.Tie as tie
+
+returns : tie.Need-returns
+unfolding errorHeadV2
+returns c =
+    let text = c .before .before .before .before .before in
+    rw (text .error-bytes .ensures, text .before .error-of .ensures) at (c .before .before .write-v2 .ensures)
+
+pub write-error-v2-spec : {M : Type 1} → statement M
+write-error-v2-spec =
+    tie.close
+    (tie.spec
+    (λ c κs. search needs)
+    (λ c κs. search needs)
+    (λ c. search needs)
+    (λ c κs. search needs)
+    (λ c. search needs)
+    returns)

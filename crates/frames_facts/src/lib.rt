@@ -1,0 +1,1 @@
+// Theorems on frames, over the definitions of `frames` alone: see specs/ReadBack.antt.

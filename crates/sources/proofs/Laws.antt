@@ -1,0 +1,99 @@
+-- Laws of sources, and of texts cut at each `D`. Assumes nothing.
+use mathlib.Core.Path.{_≡_, refl, sym, ap, _∙_}
+use mathlib.Core.Bool.{Bool, true, false, cond, not, _&&_, _||_, true≢false}
+use mathlib.Core.List.{List, [], _∷_, _++_, append-assoc}
+use Prim.Native.Nat.{ℕ, zero, suc, _+_, _<_, _≤_}
+use native.Mathlib.Numerals.{add-one}
+use native.Mathlib.Omega.{arith}
+use borrow.Author.Tests.{le-leb, lt-leb, eq-eqb, ne-eqb, leb-true}
+use lib.Dec.{eqb, leb}
+use lib.ListN.{length, getD, take, drop, drop-of-length-le}
+use lib.Seq.{take-nil}
+use Rattle.buffer.specs.Byte.{within, isDigit, every}
+use Rattle.buffer.proofs.Laws.{drop-step}
+use Rattle.sources.specs.Source.{isSource}
+use Rattle.sources.specs.Entries.{onto, parts, sourceTexts, frontOf}
+
+-- ---- sources
+
+-- one character: a digit
+pub short-form : (b : ℕ) → isSource (b ∷ []) ≡ isDigit b
+unfolding isSource every within
+short-form b = go (isDigit b)
+  where
+    go : (x : Bool) → (((x && true) && true) || false) ≡ x
+    go true = refl
+    go false = refl
+
+-- two characters: a digit, after a digit or `T`
+pub long-form : (a b : ℕ) → isSource (a ∷ b ∷ []) ≡ (isDigit b && (isDigit a || eqb a 84))
+unfolding isSource every within
+long-form a b = go (isDigit a) (isDigit b) (eqb a 84)
+  where
+    go : (x y z : Bool) → (((x && (y && true)) && true) || ((true && z) && y)) ≡ (y && (x || z))
+    go true true z = refl
+    go true false true = refl
+    go true false false = refl
+    go false true true = refl
+    go false true false = refl
+    go false false true = refl
+    go false false false = refl
+
+-- a digit is no `T`
+pub digit-no-T : (a : ℕ) → isDigit a ≡ true → eqb a 84 ≡ false
+unfolding within
+digit-no-T a e = go (leb 48 a) e
+  where
+    go : (b : Bool) → (b && leb a 57) ≡ true → eqb a 84 ≡ false
+    go true h = ne-eqb a 84 (λ (z : a ≡ 84). omega (arith, leb-true a 57 h))
+    go false h = absurd (true≢false (sym h))
+
+pub not-short : (n : ℕ) → (n ≡ 1 → ⊥) → (n ≡ 2 → ⊥) → within 1 2 n ≡ false
+unfolding within
+not-short zero h k = refl
+not-short (suc n) h k = rw (lt-leb (suc n) 2 (omega arith)) (and-no (leb 1 (suc n)))
+  where
+    and-no : (b : Bool) → (b && false) ≡ false
+    and-no true = refl
+    and-no false = refl
+
+pub one-byte : (s : List ℕ) → length s ≡ 1 → s ≡ getD s 0 0 ∷ []
+one-byte [] h = absurd (omega arith)
+one-byte (x ∷ []) h = refl
+one-byte (x ∷ y ∷ s) h = absurd (omega arith)
+
+pub two-bytes : (s : List ℕ) → length s ≡ 2 → s ≡ getD s 0 0 ∷ getD s 1 0 ∷ []
+two-bytes [] h = absurd (omega arith)
+two-bytes (x ∷ []) h = absurd (omega arith)
+two-bytes (x ∷ y ∷ []) h = refl
+two-bytes (x ∷ y ∷ z ∷ s) h = absurd (omega arith)
+
+-- ---- a text cut at each `D`
+
+pub front-step : (s : List ℕ) (i : ℕ) → i < length s → frontOf (drop i s) ≡ cond (eqb (getD s i 0) 68) 0 (frontOf (drop (i + 1) s) + 1)
+unfolding frontOf
+front-step s i h = ap frontOf (drop-step s i h)
+
+pub front-end : (s : List ℕ) (i : ℕ) → length s ≤ i → frontOf (drop i s) ≡ 0
+unfolding frontOf
+front-end s i h = ap frontOf (drop-of-length-le s h)
+
+pub front-le : (s : List ℕ) → frontOf s ≤ length s
+unfolding frontOf
+front-le [] = omega arith
+front-le (x ∷ s) = go (eqb x 68) (front-le s)
+  where
+    go : (b : Bool) → frontOf s ≤ length s → cond b 0 (frontOf s + 1) ≤ suc (length s)
+    go true h = omega arith
+    go false h = omega arith
+
+-- the first part, and then what follows each `D`
+pub parts-front : (s : List ℕ) → parts s ≡ take (frontOf s) s ∷ sourceTexts (drop (frontOf s) s)
+unfolding parts frontOf sourceTexts onto
+parts-front [] = refl
+parts-front (x ∷ s) = go (eqb x 68) (parts-front s)
+  where
+    go : (b : Bool) → parts s ≡ take (frontOf s) s ∷ sourceTexts (drop (frontOf s) s)
+        → cond b ([] ∷ parts s) (onto x (parts s)) ≡ take (cond b 0 (frontOf s + 1)) (x ∷ s) ∷ sourceTexts (drop (cond b 0 (frontOf s + 1)) (x ∷ s))
+    go true h = refl
+    go false h = rw (h, add-one (frontOf s))

@@ -1,0 +1,65 @@
+-- A text of entries, read from the front: what was read so far. Assumes nothing.
+use mathlib.Core.Path.{_≡_, refl, sym, ap, _∙_}
+use mathlib.Core.Bool.{Bool, true, false, _&&_, and-assoc, and-true}
+use mathlib.Core.List.{List, [], _∷_, _++_, map, append-assoc, append-nil}
+use Prim.Native.Nat.{ℕ, suc, _+_, _<_, _≤_}
+use native.Mathlib.Omega.{arith}
+use lib.Dec.{eqb·suc-zero}
+use lib.ListN.{length, take, drop, length-map}
+use lib.Seq.{drop-drop, take-all}
+use Rattle.buffer.specs.Byte.{every}
+use Rattle.buffer.proofs.Laws.{drop-step, take-cut}
+use Rattle.sources.specs.Source.{sourceOf, knownSources, listOf}
+use Rattle.sources.specs.Entries.{entriesOf, sourceTexts, frontOf, isFormed, isKnown, codeOf, entriesNumber, entriesList, Taken, Ran, Lists}
+use Rattle.sources.specs.declared.Run.{Run}
+use Rattle.sources.specs.declared.Listed.{Listed}
+use Rattle.sources.specs.declared.Sources.{Sources}
+use Rattle.sources.specs.declared.Source.{Source}
+use Rattle.sources.proofs.Laws.{parts-front}
+
+-- the entry at i, and then those after it
+pub entries-step : (s : List ℕ) (i : ℕ) → i < length s
+    → entriesOf (drop i s) ≡ sourceOf knownSources (take (frontOf (drop (i + 1) s)) (drop (i + 1) s)) ∷ entriesOf (drop (i + 1 + frontOf (drop (i + 1) s)) s)
+unfolding entriesOf sourceTexts
+entries-step s i h =
+    let u = drop (i + 1) s in
+    rw (drop-step s i h, parts-front u, drop-drop (frontOf u) (i + 1) s)
+
+-- `run` is what was read of s where `left` is left
+pub record Sofar (s : List ℕ) (run : Run) (left : List ℕ) : Type 0 where
+  pub formed : (run .formed && every isFormed (entriesOf left)) ≡ every isFormed (entriesOf s)
+  pub known : (run .known && every isKnown (entriesOf left)) ≡ every isKnown (entriesOf s)
+  pub count : run .count + length (entriesOf left) ≡ length (entriesOf s)
+  pub sources : take 7 (listOf (run .sources) ++ map codeOf (entriesOf left)) ≡ take 7 (map codeOf (entriesOf s))
+  pub few : take 7 (listOf (run .sources)) ≡ listOf (run .sources)
+
+pub next : {s left left′ : List ℕ} {run r : Run} (e : Source) → Sofar s run left → Taken run e r → entriesOf left ≡ e ∷ entriesOf left′ → Sofar s r left′
+unfolding every
+next {s} {left} {left′} {run} {r} e f t h =
+    record {
+      formed = rw (t .formed, and-assoc (run .formed) (isFormed e) (every isFormed (entriesOf left′))) (rw h at (f .formed));
+      known = rw (t .known, and-assoc (run .known) (isKnown e) (every isKnown (entriesOf left′))) (rw h at (f .known));
+      count = omega (arith, t .count, f .count, ap length h);
+      sources = rw (t .sources, take-cut 7 (listOf (run .sources) ++ (codeOf e ∷ [])) (map codeOf (entriesOf left′)), append-assoc) (rw h at (f .sources));
+      few = rw (t .sources) (rw (append-nil, append-nil) at (take-cut 7 (listOf (run .sources) ++ (codeOf e ∷ [])) []));
+    }
+
+pub ended : {s : List ℕ} {run : Run} → Sofar s run [] → Ran s run
+unfolding entriesOf sourceTexts every
+ended {s} {run} f =
+    record {
+      formed = sym (and-true (run .formed)) ∙ f .formed;
+      known = sym (and-true (run .known)) ∙ f .known;
+      count = omega (arith, f .count);
+      sources = sym (f .few) ∙ rw append-nil at (f .sources);
+    }
+
+-- ---- what a reader answers
+
+pub denied : {s : List ℕ} (k : ℕ) {r : Listed} → entriesNumber s ≡ suc k → (r .number ≡ suc k) × (listOf (r .sources) ≡ []) → Lists s r
+unfolding entriesList
+denied k e f = record { number = f .0 ∙ sym e; list = rw (e, eqb·suc-zero) (f .1) }
+
+pub granted : {s : List ℕ} {q : Sources} → entriesNumber s ≡ 0 → length (entriesOf s) ≤ 7 → listOf q ≡ take 7 (map codeOf (entriesOf s)) → Lists s (record { number = 0; sources = q })
+unfolding entriesList
+granted {s} e h f = record { number = sym e; list = rw e (f ∙ take-all 7 (map codeOf (entriesOf s)) (rw length-map h)) }

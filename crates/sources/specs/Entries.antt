@@ -1,0 +1,92 @@
+-- A text of entries, "each entry is `D` and a source". Assumes nothing.
+use mathlib.Core.Path.{_≡_}
+use mathlib.Core.Bool.{Bool, true, false, cond, not, _&&_, _||_}
+use mathlib.Core.List.{List, [], _∷_, _++_, map}
+use Prim.Native.Nat.{ℕ, _+_}
+use lib.Dec.{eqb, ltb}
+use lib.ListN.{length, take}
+use Rattle.buffer.specs.First.{Row, _⇒_, first}
+use Rattle.buffer.specs.Byte.{at, every}
+use Rattle.sources.specs.Source.{sourceOf, knownSources, listOf}
+use Rattle.sources.specs.declared.Run.{Run}
+use Rattle.sources.specs.declared.Listed.{Listed}
+use Rattle.sources.specs.declared.Source.{Source}
+use Rattle.sources.specs.declared.Source.the-variants.{Known, Unknown, Malformed}
+
+-- x before the first of the texts
+unfoldable pub onto : ℕ → List (List ℕ) → List (List ℕ)
+onto x [] = (x ∷ []) ∷ []
+onto x (t ∷ ts) = (x ∷ t) ∷ ts
+
+-- a text cut at each `D`
+unfoldable pub parts : List ℕ → List (List ℕ)
+parts [] = [] ∷ []
+parts (x ∷ s) = cond (eqb x 68) ([] ∷ parts s) (onto x (parts s))
+
+-- the sources' texts of a text of entries: what follows each `D`
+unfoldable pub sourceTexts : List ℕ → List (List ℕ)
+sourceTexts [] = []
+sourceTexts (x ∷ s) = parts s
+
+-- the entries' sources
+unfoldable pub entriesOf : List ℕ → List Source
+entriesOf s = map (sourceOf knownSources) (sourceTexts s)
+
+abbrev pub isFormed : Source → Bool
+isFormed (Known c) = true
+isFormed Unknown = true
+isFormed Malformed = false
+
+abbrev pub isKnown : Source → Bool
+isKnown (Known c) = true
+isKnown Unknown = false
+isKnown Malformed = false
+
+abbrev pub codeOf : Source → ℕ
+codeOf (Known c) = c
+codeOf Unknown = 0
+codeOf Malformed = 0
+
+-- how many characters stand before the next `D`, or the end
+unfoldable pub frontOf : List ℕ → ℕ
+frontOf [] = 0
+frontOf (x ∷ s) = cond (eqb x 68) 0 (frontOf s + 1)
+
+-- a text of entries is empty or starts with `D`
+unfoldable pub opens : List ℕ → Bool
+opens s = eqb (length s) 0 || eqb (at s 0) 68
+
+-- how a text of entries is judged: 10 SYNTAX where it is not of the form; 11 RANGE for a source that is unknown here, and for an eighth entry
+unfoldable pub entriesNumber : List ℕ → ℕ
+entriesNumber s =
+    let es = entriesOf s in
+    first
+    (not (opens s) ⇒ 10
+    ∷ not (every isFormed es) ⇒ 10
+    ∷ not (every isKnown es) ⇒ 11
+    ∷ ltb 7 (length es) ⇒ 11
+    ∷ [])
+    0
+
+-- the codes of a text of entries; none where it is refused
+unfoldable pub entriesList : List ℕ → List ℕ
+entriesList s = cond (eqb (entriesNumber s) 0) (map codeOf (entriesOf s)) []
+
+-- what a reader of a text of entries answers
+pub record Lists (s : List ℕ) (r : Listed) : Type 0 where
+  pub number : r .number ≡ entriesNumber s
+  pub list : listOf (r .sources) ≡ entriesList s
+
+-- r is `run` and one entry more
+pub record Taken (run : Run) (e : Source) (r : Run) : Type 0 where
+  pub formed : r .formed ≡ (run .formed && isFormed e)
+  pub known : r .known ≡ (run .known && isKnown e)
+  pub count : r .count ≡ run .count + 1
+  pub sources : listOf (r .sources) ≡ take 7 (listOf (run .sources) ++ (codeOf e ∷ []))
+
+-- r is all entries of a text
+pub record Ran (s : List ℕ) (r : Run) : Type 0 where
+  pub formed : r .formed ≡ every isFormed (entriesOf s)
+  pub known : r .known ≡ every isKnown (entriesOf s)
+  pub count : r .count ≡ length (entriesOf s)
+  pub sources : listOf (r .sources) ≡ take 7 (map codeOf (entriesOf s))

@@ -1,0 +1,3 @@
+-- Document 01, "Settings and readings, V2": the sources of the stream line and their list.
+pub mod Source
+pub mod Entries

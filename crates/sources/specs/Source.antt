@@ -1,0 +1,48 @@
+-- Sources and their texts. Assumes nothing.
+use mathlib.Core.Bool.{Bool, true, false, _&&_, _||_, not}
+use mathlib.Core.List.{List, [], _∷_, _++_}
+use Prim.Native.Nat.{ℕ}
+use lib.Dec.{eqb}
+use lib.ListN.{length, take}
+use Rattle.buffer.specs.First.{Row, _⇒_, first, pick}
+use Rattle.buffer.specs.Byte.{at, within, isDigit, every, digit}
+use Rattle.sources.specs.declared.Source.{Source}
+use Rattle.sources.specs.declared.Source.the-variants.{Known, Unknown, Malformed}
+use Rattle.sources.specs.declared.Sources.{Sources}
+
+-- A source is known by a code: its digit, or 8 for `T2`, 9 for `T6`. "The sources here are exactly `0 1 2 6 7 T2 T6`"
+abbrev pub knownSources : List ℕ
+knownSources = 0 ∷ 1 ∷ 2 ∷ 6 ∷ 7 ∷ 8 ∷ 9 ∷ []
+
+-- the text of a source's code
+unfoldable pub sourceText : ℕ → List ℕ
+sourceText c = first (eqb c 8 ⇒ (84 ∷ 50 ∷ []) ∷ eqb c 9 ⇒ (84 ∷ 54 ∷ []) ∷ []) (digit c ∷ [])
+
+-- two texts are the same
+unfoldable pub sameText : List ℕ → List ℕ → Bool
+sameText [] [] = true
+sameText [] (y ∷ t) = false
+sameText (x ∷ s) [] = false
+sameText (x ∷ s) (y ∷ t) = sameText s t && eqb x y
+
+-- "one or two digits, or `T` and a digit"
+unfoldable pub isSource : List ℕ → Bool
+isSource t = every isDigit t && within 1 2 (length t) || eqb (length t) 2 && eqb (at t 0) 84 && isDigit (at t 1)
+
+-- the first of these codes whose text it is
+unfoldable pub findSource : List ℕ → List ℕ → Source
+findSource [] t = Unknown
+findSource (c ∷ cs) t = pick (sameText t (sourceText c)) (Known c) (findSource cs t)
+
+-- what the text of an entry's source is: not of the form, or one of these codes, or unknown
+unfoldable pub sourceOf : List ℕ → List ℕ → Source
+sourceOf codes t = first (not (isSource t) ⇒ Malformed ∷ []) (findSource codes t)
+
+-- the codes of a list; a count past the array's end counts as the end
+unfoldable pub listOf : Sources → List ℕ
+listOf q = take (q .count) (q .codes)
+
+-- the text of a list: each entry is `D` and a source
+unfoldable pub listText : List ℕ → List ℕ
+listText [] = []
+listText (c ∷ cs) = (68 ∷ []) ++ sourceText c ++ listText cs

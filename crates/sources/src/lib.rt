@@ -1,0 +1,254 @@
+// The sources of the stream line and their list (document 01, "Settings and readings, V2").
+ghost use mathlib.Core.Path.{_≡_};
+ghost use mathlib.Core.List.{[], _∷_, _++_};
+ghost use Prim.Native.Nat.{_+_, _^_, _<_, _≤_};
+ghost use lib.ListN.{length, take, drop};
+ghost use Rattle.buffer.specs.Text.{textOf, cut};
+ghost use Rattle.sources.specs.Source.{knownSources, sourceOf, sourceText, listOf, listText};
+ghost use Rattle.sources.specs.Entries.{frontOf, opens, Taken, Ran, Lists};
+
+// A list of sources by their codes: a source's digit, 8 for `T2`, 9 for `T6`. The first `count` of the codes.
+pub struct Sources {
+    pub codes: [u8; 7],
+    pub count: usize,
+}
+
+// The text of an entry's source: known by its code, of the form but unknown here, or not of the form.
+pub enum Source {
+    Known(u8),
+    Unknown,
+    Malformed,
+}
+
+impl Sources {
+    pub const NONE: Sources = Sources {
+        codes: [0, 0, 0, 0, 0, 0, 0],
+        count: 0,
+    };
+
+    // The list and one source more. A full list stays as it is.
+    pub fn push(mut self, code: u8) -> Sources
+        ensures { λ r. ⌜ listOf r ≡ take 7 (listOf self ++ (code ∷ [])) ⌝ }
+    {
+        let at = self.count;
+        if 7 <= at {
+            return self;
+        }
+        self.codes[at] = code;
+        self.count = at + 1;
+        self
+    }
+
+    // How many sources the list has.
+    pub fn size(self) -> usize
+        ensures { λ r. ⌜ r ≡ length (listOf self) ⌝ }
+    {
+        let n = self.count;
+        if n < 7 {
+            return n;
+        }
+        7
+    }
+}
+
+// A source of one character.
+fn short_source(b: u8) -> Source
+    ensures { λ r. ⌜ r ≡ sourceOf knownSources (b ∷ []) ⌝ }
+{
+    match b {
+        48 => Source::Known(0),
+        49 => Source::Known(1),
+        50 => Source::Known(2),
+        54 => Source::Known(6),
+        55 => Source::Known(7),
+        _ => {
+            if buffer::is_within(b, 48, 57) {
+                return Source::Unknown;
+            }
+            Source::Malformed
+        }
+    }
+}
+
+// A source of two characters.
+fn long_source(a: u8, b: u8) -> Source
+    ensures { λ r. ⌜ r ≡ sourceOf knownSources (a ∷ b ∷ []) ⌝ }
+{
+    if !buffer::is_within(b, 48, 57) {
+        return Source::Malformed;
+    }
+    if buffer::is_within(a, 48, 57) {
+        return Source::Unknown;
+    }
+    if a != 84 {
+        return Source::Malformed;
+    }
+    if b == 50 {
+        return Source::Known(8);
+    }
+    if b == 54 {
+        return Source::Known(9);
+    }
+    Source::Unknown
+}
+
+// What a text is as the source of an entry.
+pub fn source_of(t: &[u8]) -> Source
+    ensures { λ r. ⌜ r ≡ sourceOf knownSources (now (t .entry)) ⌝ }
+{
+    let n = t.len();
+    if n == 1 {
+        return short_source(t[0]);
+    }
+    if n == 2 {
+        return long_source(t[0], t[1]);
+    }
+    Source::Malformed
+}
+
+// How many characters stand before the next `D`, or the end.
+fn front(s: &[u8]) -> usize
+    ensures { λ r. ⌜ r ≡ frontOf (now (s .entry)) ⌝ }
+{
+    let mut i: usize = 0;
+    while i < s.len() {
+        if s[i] == 68 {
+            return i;
+        }
+        i += 1;
+    }
+    i
+}
+
+// The entries that were read: whether each has the form, whether each is known, how many they are, and the first seven.
+pub struct Run {
+    pub formed: bool,
+    pub known: bool,
+    pub count: usize,
+    pub sources: Sources,
+}
+
+// One entry more.
+fn taken(run: Run, e: Source) -> Run
+    requires { ⌜ run .count < 2 ^ 63 ⌝ }
+    ensures { λ r. ⌜ Taken run e r ⌝ }
+{
+    let list = run.sources;
+    let count = run.count + 1;
+    match e {
+        Source::Known(c) => Run {
+            formed: run.formed,
+            known: run.known,
+            count,
+            sources: list.push(c),
+        },
+        Source::Unknown => Run {
+            formed: run.formed,
+            known: false,
+            count,
+            sources: list.push(0),
+        },
+        Source::Malformed => Run {
+            formed: false,
+            known: false,
+            count,
+            sources: list.push(0),
+        },
+    }
+}
+
+// All entries of a text.
+fn run_of(s: &[u8]) -> Run
+    ensures { λ r. ⌜ Ran (now (s .entry)) r ⌝ }
+{
+    let mut run = Run {
+        formed: true,
+        known: true,
+        count: 0,
+        sources: Sources::NONE,
+    };
+    let mut i: usize = 0;
+    while i < s.len() {
+        let t = buffer::rest(s, i + 1);
+        let n = front(t);
+        run = taken(run, source_of(&t[..n]));
+        i = i + 1 + n;
+    }
+    run
+}
+
+fn is_open(s: &[u8]) -> bool
+    ensures { λ r. ⌜ r ≡ opens (now (s .entry)) ⌝ }
+{
+    if s.len() == 0 {
+        return true;
+    }
+    s[0] == 68
+}
+
+// A text of entries as a list: 0, 10 SYNTAX or 11 RANGE, and the list, which is empty where it is refused.
+pub struct Listed {
+    pub number: u8,
+    pub sources: Sources,
+}
+
+fn refused(number: u8) -> Listed
+    ensures { λ r. ⌜ (r .number ≡ number) × (listOf (r .sources) ≡ []) ⌝ }
+{
+    Listed {
+        number,
+        sources: Sources::NONE,
+    }
+}
+
+// Reads a text of entries. The list is never filled past its end, whatever the text.
+pub fn read_entries(s: &[u8]) -> Listed
+    ensures { λ r. ⌜ Lists (now (s .entry)) r ⌝ }
+{
+    if !is_open(s) {
+        return refused(10);
+    }
+    let run = run_of(s);
+    let formed = run.formed;
+    let known = run.known;
+    let count = run.count;
+    if !formed {
+        return refused(10);
+    }
+    if !known {
+        return refused(11);
+    }
+    if 7 < count {
+        return refused(11);
+    }
+    let sources = run.sources;
+    Listed { number: 0, sources }
+}
+
+// The text t, then the text of a source.
+fn with_source(t: buffer::Text, code: u8) -> buffer::Text
+    ensures { λ r. ⌜ textOf r ≡ cut (textOf t ++ ((68 ∷ []) ++ sourceText code)) ⌝ }
+{
+    if code == 8 {
+        return t.push(b'D').push(b'T').push(b'2');
+    }
+    if code == 9 {
+        return t.push(b'D').push(b'T').push(b'6');
+    }
+    t.push(b'D').push(code % 10 + 48)
+}
+
+// The text t, then the text of a list.
+pub fn with_list(t: buffer::Text, list: Sources) -> buffer::Text
+    ensures { λ r. ⌜ textOf r ≡ cut (textOf t ++ listText (listOf list)) ⌝ }
+{
+    let n = list.size();
+    let codes = list.codes;
+    let mut r = t.add(&codes[..0]);
+    let mut i: usize = 0;
+    while i < n {
+        r = with_source(r, codes[i]);
+        i += 1;
+    }
+    r
+}

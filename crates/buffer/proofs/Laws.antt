@@ -1,15 +1,18 @@
 -- Laws of stores in lent memory, of answers and of short texts. Assumes nothing.
 use mathlib.Core.Path.{_≡_, refl, sym, ap, _∙_}
+use mathlib.Core.Bool.{Bool, true, false, cond}
 use mathlib.Core.List.{List, [], _∷_, _++_, append-assoc, append-nil}
 use Prim.Native.Nat.{ℕ, zero, suc, _+_, _-_, _*_, _^_, _<_, _≤_}
 use native.Mathlib.Nat.{add-zero, zero-add, add-suc, suc-add, pow-suc, pow-le-pow-right, sub-zero, zero-sub, suc-sub-suc}
 use native.Mathlib.Numerals.{add-one}
 use native.Mathlib.Omega.{arith}
-use lib.ListN.{length, getD, set, drop, take, length-append, length-drop, length-take, length-set}
+use lib.Dec.{eqb}
+use lib.ListN.{length, getD, set, drop, take, length-take, length-drop, drop-of-length-le}
 use lib.Seq.{sets, sets-eq, drop-cons, take-at, take-all, take-append-le, take-append-add, set-out, take-nil}
 use Rattle.buffer.specs.Answer.{Answer, silent, over, Stored, Sent}
-use Rattle.buffer.specs.Byte.{numeralFrom}
-use Rattle.buffer.specs.Text.{cut}
+use Rattle.buffer.specs.Byte.{untilOf, numeralFrom}
+use Rattle.buffer.specs.Text.{textOf, cut}
+use Rattle.buffer.specs.declared.Text.{Text}
 use Rattle.buffer.specs.declared.Written.{Written}
 
 -- ---- stores
@@ -77,6 +80,25 @@ take-taken zero l = refl
 take-taken (suc n) [] = refl
 take-taken (suc n) (x ∷ l) = ap (λ (r : List ℕ). x ∷ r) (take-taken n l)
 
+-- ---- what stands before a byte
+
+pub until-step : (b : ℕ) (s : List ℕ) (i : ℕ) → i < length s → untilOf b (drop i s) ≡ cond (eqb (getD s i 0) b) 0 (untilOf b (drop (i + 1) s) + 1)
+unfolding untilOf
+until-step b s i h = ap (untilOf b) (drop-step s i h)
+
+pub until-end : (b : ℕ) (s : List ℕ) (i : ℕ) → length s ≤ i → untilOf b (drop i s) ≡ 0
+unfolding untilOf
+until-end b s i h = ap (untilOf b) (drop-of-length-le s h)
+
+pub until-le : (b : ℕ) (s : List ℕ) → untilOf b s ≤ length s
+unfolding untilOf
+until-le b [] = omega arith
+until-le b (x ∷ s) = go (eqb x b) (until-le b s)
+  where
+    go : (t : Bool) → untilOf b s ≤ length s → cond t 0 (untilOf b s + 1) ≤ suc (length s)
+    go true h = omega arith
+    go false h = omega arith
+
 -- ---- numerals
 
 -- the character at i, of at most n, and what is left of them at i + 1
@@ -112,3 +134,12 @@ cut-again a = rw (append-nil (cut a), append-nil a) at (cut-cut a [])
 pub cut-fits : (a : List ℕ) → length a ≤ 24 → cut a ≡ a
 unfolding cut
 cut-fits a h = take-all 24 a h
+
+-- as many of a text's bytes as it has characters are the text
+pub shown : (t : Text) (n : ℕ) → n ≡ length (textOf t) → take n (t .bytes) ≡ textOf t
+unfolding textOf
+shown t n e = ap (λ (k : ℕ). take k (t .bytes)) e ∙ take-taken (t .len) (t .bytes)
+
+pub shown-le : (t : Text) (n : ℕ) → n ≡ length (textOf t) → n ≤ length (t .bytes)
+unfolding textOf
+shown-le t n e = omega (arith, simp length-take at e)

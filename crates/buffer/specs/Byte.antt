@@ -1,8 +1,8 @@
 -- Bytes and lists of bytes. Assumes nothing.
-use mathlib.Core.Bool.{Bool, true, false, _&&_, _||_}
+use mathlib.Core.Bool.{Bool, true, false, cond, _&&_}
 use mathlib.Core.List.{List, [], _∷_}
 use Prim.Native.Nat.{ℕ, _+_, _-_, _*_, _/_, _%_}
-use lib.Dec.{leb}
+use lib.Dec.{leb, eqb}
 use lib.ListN.{getD}
 
 -- the byte at place i, and 0 past the end
@@ -21,6 +21,11 @@ isDigit b = within 48 57 b
 unfoldable pub every : {A : Type 0} → (A → Bool) → List A → Bool
 every p [] = true
 every p (x ∷ xs) = p x && every p xs
+
+-- how many elements stand before the first b, or the end
+unfoldable pub untilOf : ℕ → List ℕ → ℕ
+untilOf b [] = 0
+untilOf b (x ∷ s) = cond (eqb x b) 0 (untilOf b s + 1)
 
 -- the number that a list of digits spells, after v
 unfoldable pub numeralFrom : ℕ → List ℕ → ℕ

@@ -4,7 +4,7 @@ ghost use mathlib.Core.List.{[], _∷_, _++_};
 ghost use lib.ListN.{length, take, drop};
 ghost use Prim.Native.Nat.{_<_, _-_};
 ghost use Rattle.buffer.specs.Answer.{Stored};
-ghost use Rattle.buffer.specs.Byte.{within, every, numeral};
+ghost use Rattle.buffer.specs.Byte.{within, every, untilOf, numeral};
 ghost use Rattle.buffer.specs.Text.{textOf, cut};
 
 // An answer's number, and the length of its reply.
@@ -63,6 +63,15 @@ impl Text {
             i += 1;
         }
         t
+    }
+
+    // The text and then another, as far as it holds them.
+    pub fn join(self, other: Text) -> Text
+        ensures { λ r. ⌜ textOf r ≡ cut (textOf self ++ textOf other) ⌝ }
+    {
+        let n = other.size();
+        let bytes = other.bytes;
+        self.add(&bytes[..n])
     }
 
     // How many characters the text has.
@@ -131,6 +140,20 @@ pub fn numeral_of(s: &[u8]) -> u32
         i += 1;
     }
     v
+}
+
+// How many bytes stand before the first b, or the end.
+pub fn until(s: &[u8], b: u8) -> usize
+    ensures { λ r. ⌜ r ≡ untilOf b (now (s .entry)) ⌝ }
+{
+    let mut i: usize = 0;
+    while i < s.len() {
+        if s[i] == b {
+            return i;
+        }
+        i += 1;
+    }
+    i
 }
 
 // What is left of s from place a on.

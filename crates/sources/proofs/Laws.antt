@@ -2,17 +2,20 @@
 use mathlib.Core.Path.{_≡_, refl, sym, ap, _∙_}
 use mathlib.Core.Bool.{Bool, true, false, cond, not, _&&_, _||_, true≢false}
 use mathlib.Core.List.{List, [], _∷_, _++_, append-assoc}
-use Prim.Native.Nat.{ℕ, zero, suc, _+_, _<_, _≤_}
+use Prim.Native.Nat.{ℕ, zero, suc, _+_, _*_, _<_, _≤_}
 use native.Mathlib.Numerals.{add-one}
 use native.Mathlib.Omega.{arith}
 use borrow.Author.Tests.{le-leb, lt-leb, eq-eqb, ne-eqb, leb-true}
 use lib.Dec.{eqb, leb}
-use lib.ListN.{length, getD, take, drop, drop-of-length-le}
+use lib.ListN.{length, getD, take, length-append, length-take, drop, drop-of-length-le}
 use lib.Seq.{take-nil}
-use Rattle.buffer.specs.Byte.{within, isDigit, every}
+use Rattle.buffer.specs.Byte.{within, isDigit, every, untilOf, digit}
+use Rattle.buffer.specs.First.{pick}
+use Rattle.buffer.proofs.Rules.{each}
 use Rattle.buffer.proofs.Laws.{drop-step}
-use Rattle.sources.specs.Source.{isSource}
-use Rattle.sources.specs.Entries.{onto, parts, sourceTexts, frontOf}
+use Rattle.sources.specs.Source.{isSource, sourceText, listText, listOf}
+use Rattle.sources.specs.declared.Sources.{Sources}
+use Rattle.sources.specs.Entries.{onto, parts, sourceTexts}
 
 -- ---- sources
 
@@ -70,30 +73,31 @@ two-bytes (x ∷ y ∷ z ∷ s) h = absurd (omega arith)
 
 -- ---- a text cut at each `D`
 
-pub front-step : (s : List ℕ) (i : ℕ) → i < length s → frontOf (drop i s) ≡ cond (eqb (getD s i 0) 68) 0 (frontOf (drop (i + 1) s) + 1)
-unfolding frontOf
-front-step s i h = ap frontOf (drop-step s i h)
-
-pub front-end : (s : List ℕ) (i : ℕ) → length s ≤ i → frontOf (drop i s) ≡ 0
-unfolding frontOf
-front-end s i h = ap frontOf (drop-of-length-le s h)
-
-pub front-le : (s : List ℕ) → frontOf s ≤ length s
-unfolding frontOf
-front-le [] = omega arith
-front-le (x ∷ s) = go (eqb x 68) (front-le s)
-  where
-    go : (b : Bool) → frontOf s ≤ length s → cond b 0 (frontOf s + 1) ≤ suc (length s)
-    go true h = omega arith
-    go false h = omega arith
-
 -- the first part, and then what follows each `D`
-pub parts-front : (s : List ℕ) → parts s ≡ take (frontOf s) s ∷ sourceTexts (drop (frontOf s) s)
-unfolding parts frontOf sourceTexts onto
+pub parts-front : (s : List ℕ) → parts s ≡ take (untilOf 68 s) s ∷ sourceTexts (drop (untilOf 68 s) s)
+unfolding parts untilOf sourceTexts onto
 parts-front [] = refl
 parts-front (x ∷ s) = go (eqb x 68) (parts-front s)
   where
-    go : (b : Bool) → parts s ≡ take (frontOf s) s ∷ sourceTexts (drop (frontOf s) s)
-        → cond b ([] ∷ parts s) (onto x (parts s)) ≡ take (cond b 0 (frontOf s + 1)) (x ∷ s) ∷ sourceTexts (drop (cond b 0 (frontOf s + 1)) (x ∷ s))
+    go : (b : Bool) → parts s ≡ take (untilOf 68 s) s ∷ sourceTexts (drop (untilOf 68 s) s)
+        → cond b ([] ∷ parts s) (onto x (parts s)) ≡ take (cond b 0 (untilOf 68 s + 1)) (x ∷ s) ∷ sourceTexts (drop (cond b 0 (untilOf 68 s + 1)) (x ∷ s))
     go true h = refl
-    go false h = rw (h, add-one (frontOf s))
+    go false h = rw (h, add-one (untilOf 68 s))
+
+-- ---- texts
+
+source-text-le : (c : ℕ) → length (sourceText c) ≤ 2
+unfolding sourceText
+source-text-le c =
+    each (λ (l : List ℕ). length l ≤ 2) (eqb c 8) (84 ∷ 50 ∷ []) (pick (eqb c 9) (84 ∷ 54 ∷ []) (digit c ∷ [])) (λ _. omega arith)
+    (λ _. each (λ (l : List ℕ). length l ≤ 2) (eqb c 9) (84 ∷ 54 ∷ []) (digit c ∷ []) (λ _. omega arith) (λ _. omega arith))
+
+-- an entry has at most three characters
+pub list-text-le : (cs : List ℕ) → length (listText cs) ≤ 3 * length cs
+unfolding listText
+list-text-le [] = omega arith
+list-text-le (c ∷ cs) = simp length-append (omega (arith, source-text-le c, list-text-le cs))
+
+pub list-few : (q : Sources) → length (q .codes) ≡ 7 → length (listOf q) ≤ 7
+unfolding listOf
+list-few q h = simp length-take (omega arith)

@@ -7,10 +7,10 @@ use native.Mathlib.Omega.{arith}
 use lib.Dec.{eqb·suc-zero}
 use lib.ListN.{length, take, drop, length-map}
 use lib.Seq.{drop-drop, take-all}
-use Rattle.buffer.specs.Byte.{every}
+use Rattle.buffer.specs.Byte.{every, untilOf}
 use Rattle.buffer.proofs.Laws.{drop-step, take-cut}
 use Rattle.sources.specs.Source.{sourceOf, knownSources, listOf}
-use Rattle.sources.specs.Entries.{entriesOf, sourceTexts, frontOf, isFormed, isKnown, codeOf, entriesNumber, entriesList, Taken, Ran, Lists}
+use Rattle.sources.specs.Entries.{entriesOf, sourceTexts, isFormed, isKnown, codeOf, entriesNumber, entriesList, Taken, Ran, Lists}
 use Rattle.sources.specs.declared.Run.{Run}
 use Rattle.sources.specs.declared.Listed.{Listed}
 use Rattle.sources.specs.declared.Sources.{Sources}
@@ -19,11 +19,11 @@ use Rattle.sources.proofs.Laws.{parts-front}
 
 -- the entry at i, and then those after it
 pub entries-step : (s : List ℕ) (i : ℕ) → i < length s
-    → entriesOf (drop i s) ≡ sourceOf knownSources (take (frontOf (drop (i + 1) s)) (drop (i + 1) s)) ∷ entriesOf (drop (i + 1 + frontOf (drop (i + 1) s)) s)
+    → entriesOf (drop i s) ≡ sourceOf knownSources (take (untilOf 68 (drop (i + 1) s)) (drop (i + 1) s)) ∷ entriesOf (drop (i + 1 + untilOf 68 (drop (i + 1) s)) s)
 unfolding entriesOf sourceTexts
 entries-step s i h =
     let u = drop (i + 1) s in
-    rw (drop-step s i h, parts-front u, drop-drop (frontOf u) (i + 1) s)
+    rw (drop-step s i h, parts-front u, drop-drop (untilOf 68 u) (i + 1) s)
 
 -- `run` is what was read of s where `left` is left
 pub record Sofar (s : List ℕ) (run : Run) (left : List ℕ) : Type 0 where

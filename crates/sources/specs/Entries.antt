@@ -7,7 +7,7 @@ use lib.Dec.{eqb, ltb}
 use lib.ListN.{length, take}
 use Rattle.buffer.specs.First.{Row, _⇒_, first}
 use Rattle.buffer.specs.Byte.{at, every}
-use Rattle.sources.specs.Source.{sourceOf, knownSources, listOf}
+use Rattle.sources.specs.Source.{sourceOf, knownSources, mostEntries, listOf}
 use Rattle.sources.specs.declared.Run.{Run}
 use Rattle.sources.specs.declared.Listed.{Listed}
 use Rattle.sources.specs.declared.Source.{Source}
@@ -47,11 +47,6 @@ codeOf (Known c) = c
 codeOf Unknown = 0
 codeOf Malformed = 0
 
--- how many characters stand before the next `D`, or the end
-unfoldable pub frontOf : List ℕ → ℕ
-frontOf [] = 0
-frontOf (x ∷ s) = cond (eqb x 68) 0 (frontOf s + 1)
-
 -- a text of entries is empty or starts with `D`
 unfoldable pub opens : List ℕ → Bool
 opens s = eqb (length s) 0 || eqb (at s 0) 68
@@ -64,7 +59,7 @@ entriesNumber s =
     (not (opens s) ⇒ 10
     ∷ not (every isFormed es) ⇒ 10
     ∷ not (every isKnown es) ⇒ 11
-    ∷ ltb 7 (length es) ⇒ 11
+    ∷ ltb mostEntries (length es) ⇒ 11
     ∷ [])
     0
 

@@ -14,6 +14,10 @@ use Rattle.sources.specs.declared.Sources.{Sources}
 abbrev pub knownSources : List ℕ
 knownSources = 0 ∷ 1 ∷ 2 ∷ 6 ∷ 7 ∷ 8 ∷ 9 ∷ []
 
+-- "up to seven sources"
+abbrev pub mostEntries : ℕ
+mostEntries = 7
+
 -- the text of a source's code
 unfoldable pub sourceText : ℕ → List ℕ
 sourceText c = first (eqb c 8 ⇒ (84 ∷ 50 ∷ []) ∷ eqb c 9 ⇒ (84 ∷ 54 ∷ []) ∷ []) (digit c ∷ [])

@@ -5,7 +5,7 @@ ghost use Prim.Native.Nat.{_+_, _^_, _<_, _≤_};
 ghost use lib.ListN.{length, take, drop};
 ghost use Rattle.buffer.specs.Text.{textOf, cut};
 ghost use Rattle.sources.specs.Source.{knownSources, sourceOf, sourceText, listOf, listText};
-ghost use Rattle.sources.specs.Entries.{frontOf, opens, Taken, Ran, Lists};
+ghost use Rattle.sources.specs.Entries.{opens, Taken, Ran, Lists};
 
 // A list of sources by their codes: a source's digit, 8 for `T2`, 9 for `T6`. The first `count` of the codes.
 pub struct Sources {
@@ -106,20 +106,6 @@ pub fn source_of(t: &[u8]) -> Source
     Source::Malformed
 }
 
-// How many characters stand before the next `D`, or the end.
-fn front(s: &[u8]) -> usize
-    ensures { λ r. ⌜ r ≡ frontOf (now (s .entry)) ⌝ }
-{
-    let mut i: usize = 0;
-    while i < s.len() {
-        if s[i] == 68 {
-            return i;
-        }
-        i += 1;
-    }
-    i
-}
-
 // The entries that were read: whether each has the form, whether each is known, how many they are, and the first seven.
 pub struct Run {
     pub formed: bool,
@@ -170,7 +156,7 @@ fn run_of(s: &[u8]) -> Run
     let mut i: usize = 0;
     while i < s.len() {
         let t = buffer::rest(s, i + 1);
-        let n = front(t);
+        let n = buffer::until(t, b'D');
         run = taken(run, source_of(&t[..n]));
         i = i + 1 + n;
     }

@@ -6,8 +6,8 @@ use native.Mathlib.Omega.{arith}
 use borrow.Author.Needs.{needs}
 use lib.ListN.{length, take, drop, drop-of-length-le, length-take, length-drop}
 use Rattle.sources.specs.Source.{listOf, sourceOf, knownSources}
-use Rattle.sources.specs.Entries.{frontOf}
-use Rattle.sources.proofs.Laws.{front-le}
+use Rattle.buffer.specs.Byte.{untilOf}
+use Rattle.buffer.proofs.Laws.{until-le}
 use Rattle.sources.proofs.Reading.{Sofar, entries-step, next, ended}
 use Rattle.sources.proofs.run_of.Statement.{statement}
 use Rattle.sources.proofs.run_of.Tie as tie
@@ -23,17 +23,17 @@ unfolding listOf
 loop-holds c = (omega arith, omega arith, record { formed = refl; known = refl; count = omega arith; sources = refl; few = refl })
 
 -- the front of what follows a `D` ends within the text
-reach : (s : List ℕ) (i : ℕ) → i < length s → frontOf (drop (i + 1) s) + (i + 1) ≤ length s
-reach s i h = omega (arith, front-le (drop (i + 1) s), length-drop (i + 1) s)
+reach : (s : List ℕ) (i : ℕ) → i < length s → untilOf 68 (drop (i + 1) s) + (i + 1) ≤ length s
+reach s i h = omega (arith, until-le 68 (drop (i + 1) s), length-drop (i + 1) s)
 
 loop-again : tie.Need-loop-again Inv-loop μ-loop
 loop-again c =
     let s = c .before .before .before .before .before .before .before .before .args .s .now in
     let l = c .before .before .before .before .before .before .loop in
     let u = c .before .before .before .before .rest .ensures in
-    let n : c .before .before .before .front .result ≡ frontOf (drop (l .i + 1) s) = c .before .before .before .front .ensures ∙ ap frontOf u in
+    let n : c .before .before .before .until .result ≡ untilOf 68 (drop (l .i + 1) s) = c .before .before .before .until .ensures ∙ ap (untilOf 68) u in
     let h = reach s (l .i) (omega arith) in
-    let e : c .before .source-of .result ≡ sourceOf knownSources (take (frontOf (drop (l .i + 1) s)) (drop (l .i + 1) s)) = rw (← n, ← u) (c .before .source-of .ensures) in
+    let e : c .before .source-of .result ≡ sourceOf knownSources (take (untilOf 68 (drop (l .i + 1) s)) (drop (l .i + 1) s)) = rw (← n, ← u) (c .before .source-of .ensures) in
     (omega (arith, n, h), omega (arith, c .taken .ensures .count), next (c .before .source-of .result) (l .inv .2) (c .taken .ensures) (rw (e, n) (entries-step s (l .i) (omega arith))))
 
 pub run-of-spec : {M : Type 1} → statement M
@@ -46,11 +46,11 @@ run-of-spec =
     (λ c. omega arith)
     (λ c κs. search needs)
     (λ c κs. search needs)
-    (λ c. simp length-take (omega (arith, c .before .front .ensures, front-le (c .before .before .rest .result .now))))
+    (λ c. simp length-take (omega (arith, c .before .until .ensures, until-le 68 (c .before .before .rest .result .now))))
     (λ c κs. search needs)
     (λ c κs. omega (arith, c .before .before .before .before .before .before .before .good .0 .1))
     (λ c. omega arith)
-    (λ c. omega (arith, c .before .before .before .front .ensures ∙ ap frontOf (c .before .before .before .before .rest .ensures), reach (c .before .before .before .before .before .before .before .before .args .s .now) (c .before .before .before .before .before .before .loop .i) (omega arith)))
-    (λ c. omega (arith, c .before .before .before .front .ensures ∙ ap frontOf (c .before .before .before .before .rest .ensures), reach (c .before .before .before .before .before .before .before .before .args .s .now) (c .before .before .before .before .before .before .loop .i) (omega arith)))
+    (λ c. omega (arith, c .before .before .before .until .ensures ∙ ap (untilOf 68) (c .before .before .before .before .rest .ensures), reach (c .before .before .before .before .before .before .before .before .args .s .now) (c .before .before .before .before .before .before .loop .i) (omega arith)))
+    (λ c. omega (arith, c .before .before .before .until .ensures ∙ ap (untilOf 68) (c .before .before .before .before .rest .ensures), reach (c .before .before .before .before .before .before .before .before .args .s .now) (c .before .before .before .before .before .before .loop .i) (omega arith)))
     loop-again
     (λ c. ended (rw (drop-of-length-le (c .before .before .before .args .s .now) (c .loop-test .left)) at (c .before .loop .inv .2))))

@@ -1,0 +1,44 @@
+-- Document 01, "Decimal numbers": canonical numbers, and which values have one. Assumes nothing.
+use mathlib.Core.Path.{_≡_}
+use mathlib.Core.Logic.{_⊎_}
+use Prim.Native.Nat.{ℕ, _+_, _*_, _^_, _<_, _≤_}
+use Rattle.decimal.specs.Exact.{units, zeroNumber}
+use Rattle.decimal.specs.declared.Number.{Number}
+use Rattle.decimal.specs.declared.Exact.{Exact}
+use Rattle.decimal.specs.declared.Parsed.{Parsed}
+use Rattle.decimal.specs.declared.Parsed.the-variants.{Value, Syntax, Range}
+
+-- six digits, the first not zero, and that one "at a place from 10^-9", which is 0, "to 10^9", which is 18
+pub record Full (n : Number) : Type 0 where
+  pub low : 100000 ≤ n .mantissa
+  pub high : n .mantissa < 1000000
+  pub place : n .place ≤ 18
+
+-- "It is zero or" that
+abbrev pub Canonical : Number → Type 0
+Canonical n = (n ≡ zeroNumber) ⊎ Full n
+
+-- n is the canonical number of x's value: its size units n / 10 ^ 14 is digits * 10 ^ up / 10 ^ down, and its sign is x's
+pub record Exactly (x : Exact) (n : Number) : Type 0 where
+  pub canonical : Canonical n
+  pub size : units n * 10 ^ x .down ≡ x .digits * 10 ^ x .up * 10 ^ 14
+  pub sign : 0 < x .digits → n .negative ≡ x .negative
+
+-- x's size is below 10^-9
+abbrev pub TooSmall : Exact → Type 0
+TooSmall x = x .digits * 10 ^ (x .up + 9) < 10 ^ x .down
+
+-- x's size is at least 10^10
+abbrev pub TooLarge : Exact → Type 0
+TooLarge x = 10 ^ (x .down + 10) ≤ x .digits * 10 ^ x .up
+
+-- d is at most six digits, and zeros
+abbrev pub SixDigits : ℕ → Type 0
+SixDigits d = (m : ℕ) × (k : ℕ) × (m < 10 ^ 6) × (d ≡ m * 10 ^ k)
+
+-- what is answered for x, and what is then known of x
+pub data Answers (x : Exact) : Parsed → Type 0 where
+  nothing : x .digits ≡ 0 → Answers x (Value zeroNumber)
+  number : (n : Number) → 0 < x .digits → Exactly x n → Answers x (Value n)
+  outside : 0 < x .digits → SixDigits (x .digits) → TooSmall x ⊎ TooLarge x → Answers x Range
+  uneven : 0 < x .digits → (SixDigits (x .digits) → ⊥) → Answers x Syntax

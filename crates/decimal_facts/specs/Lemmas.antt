@@ -1,0 +1,6 @@
+-- What the theorems rest on.
+pub mod Digits
+pub mod Powers
+pub mod Reader
+pub mod Rows
+pub mod Texts

@@ -1,0 +1,1 @@
+// Document 01, "Decimal numbers": theorems only, in specs/.

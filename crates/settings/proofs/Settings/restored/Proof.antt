@@ -1,0 +1,10 @@
+-- `settings::Settings::restored` meets its contract. Assumes nothing.
+use mathlib.Core.Path.{_≡_, refl, sym, ap, _∙_}
+use borrow.Author.Needs.{needs}
+use Rattle.settings.specs.Settings.{restoreOf}
+use Rattle.settings.proofs.Settings.restored.Statement.{statement}
+use Rattle.settings.proofs.Settings.restored.Tie as tie
+
+pub restored-spec : {M : Type 1} → statement M
+unfolding restoreOf
+restored-spec = tie.close (tie.spec (λ c κs. search needs) (λ c κs. search needs) (λ c. rw (← (c .before .factory-value .ensures)) (c .with .ensures)))

@@ -1,0 +1,10 @@
+-- `settings::digit_text` meets its contract. Assumes nothing.
+use mathlib.Core.Path.{_≡_, refl, sym, ap, _∙_}
+use borrow.Author.Needs.{needs}
+use Rattle.buffer.specs.Text.{textOf, cut}
+use Rattle.settings.proofs.digit_text.Statement.{statement}
+use Rattle.settings.proofs.digit_text.Tie as tie
+
+pub digit-text-spec : {M : Type 1} → statement M
+unfolding textOf cut
+digit-text-spec = tie.close (tie.spec (λ c. search needs) (λ c κs. search needs) (λ c. c .push .ensures))

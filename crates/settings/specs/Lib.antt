@@ -1,0 +1,4 @@
+-- Document 01, "Settings and readings, V2": the settings, their limits and factory values, and the texts that reads send.
+pub mod Limits
+pub mod Settings
+pub mod Sent

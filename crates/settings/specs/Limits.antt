@@ -1,0 +1,68 @@
+-- The limits of settings and of the stream line, each named once. Assumes nothing.
+use mathlib.Core.Path.{_≡_, refl}
+use mathlib.Core.Bool.{Bool, true, false}
+use mathlib.Core.List.{List, [], _∷_}
+use Prim.Native.Nat.{ℕ, _+_, _*_, max}
+use lib.Dec.{eqb, leb}
+use Rattle.buffer.specs.First.{Row, _⇒_, first, pick}
+use Rattle.decimal.specs.declared.Number.{Number}
+use Rattle.sources.specs.Source.{knownSources, mostEntries}
+use Rattle.settings.specs.declared.Transition.{Transition}
+use Rattle.settings.specs.declared.Transition.the-variants.{Direct, Between}
+
+pub record Limits : Type 0 where
+  pub addressLow : ℕ
+  pub addressHigh : ℕ
+  -- hundredths
+  pub factorLow : ℕ
+  pub factorHigh : ℕ
+  -- the largest digit of CM, CC and FC
+  pub controlHigh : ℕ
+  pub cathodeHigh : ℕ
+  pub filamentHigh : ℕ
+  -- the numbers of ST
+  pub transitionLow : Number
+  pub transitionHigh : Number
+  pub factoryTransition : Transition
+  -- the sources that a list can name, and how many entries it can have
+  pub sourceCodes : List ℕ
+  pub entries : ℕ
+
+-- the positive number of mantissa m at place p: m * 10 ^ p, in 10^-14
+abbrev pub positive : ℕ → ℕ → Number
+positive m p = record { negative = false; mantissa = m; place = p }
+
+-- the column "Data" and the factory value of ST: "each 1 to 20", "F 5, T 15"
+abbrev pub standard : Limits
+standard =
+    record {
+      addressLow = 1;
+      addressHigh = 16;
+      factorLow = 20;
+      factorHigh = 800;
+      controlHigh = 1;
+      cathodeHigh = 1;
+      filamentHigh = 3;
+      transitionLow = positive 100000 9;
+      transitionHigh = positive 200000 10;
+      factoryTransition = Between (positive 500000 9) (positive 150000 10);
+      sourceCodes = knownSources;
+      entries = mostEntries;
+    }
+
+-- the widest value of a source: a number that is not negative has at most 10 characters, source 7's has 11, a temperature 6
+unfoldable pub widthOf : ℕ → ℕ
+widthOf code = first (eqb code 7 ⇒ 11 ∷ leb 8 code ⇒ 6 ∷ []) 10
+
+unfoldable pub widest : List ℕ → ℕ
+widest [] = 0
+widest (c ∷ cs) = max (widthOf c) (widest cs)
+
+-- the longest line: source 0, then the entries, each after a `;`, the checksum and CR
+unfoldable pub longestLine : Limits → ℕ
+longestLine l = widthOf 0 + l .entries * (widest (l .sourceCodes) + 1) + 2
+
+-- "Longest: 10 + 7 x 11 + 7 + 2 = 96 bytes"
+pub longest-is : longestLine standard ≡ 96
+unfolding longestLine widest widthOf pick
+longest-is = refl

@@ -1,0 +1,295 @@
+// The settings of the text gauge (document 01, "Settings and readings, V2"): factory values, limits, what a write or a restore
+// changes, and the texts that reads send.
+ghost use mathlib.Core.Path.{_≡_};
+ghost use mathlib.Core.List.{[], _∷_};
+ghost use Rattle.buffer.specs.Text.{textOf};
+ghost use Rattle.buffer.specs.Byte.{digit, digits3};
+ghost use Rattle.sources.specs.Source.{listOf};
+ghost use Rattle.settings.specs.Settings.{factory, factoryOf, putOf, restoreOf};
+ghost use Rattle.settings.specs.Sent.{unitText, transitionText, streamText, readText};
+
+// The unit of pressure, DU.
+pub enum PressureUnit {
+    Mbar,
+    Torr,
+    HPa,
+}
+
+// The transition of ST: a direct switch, or one between two ends.
+pub enum Transition {
+    Direct(decimal::Number),
+    Between(decimal::Number, decimal::Number),
+}
+
+// The settings by their commands: the table's rows with a write.
+pub enum Key {
+    DA,
+    DU,
+    C1,
+    CM,
+    CC,
+    FC,
+    ST,
+    SM,
+}
+
+// A setting and its value: one case for each command, the factor in hundredths. Stream says whether lines are sent (mode 4); the
+// list of sources stands beside it.
+pub enum Setting {
+    Address(u8),
+    PressureIn(PressureUnit),
+    Factor(u16),
+    Control(u8),
+    Cathode(u8),
+    Filament(u8),
+    Switch(Transition),
+    Stream(bool),
+}
+
+// The settings. The list counts while lines are sent.
+pub struct Settings {
+    pub address: u8,
+    pub unit: PressureUnit,
+    pub factor: u16,
+    pub control: u8,
+    pub cathode: u8,
+    pub filament: u8,
+    pub transition: Transition,
+    pub streaming: bool,
+    pub sources: sources::Sources,
+}
+
+impl Settings {
+    pub const ADDRESS_MIN: u8 = 1;
+    pub const ADDRESS_MAX: u8 = 16;
+    pub const FACTOR_MIN: u16 = 20;
+    pub const FACTOR_MAX: u16 = 800;
+    pub const CONTROL_MAX: u8 = 1;
+    pub const CATHODE_MAX: u8 = 1;
+    pub const FILAMENT_MAX: u8 = 3;
+
+    // The numbers of ST lie from 1 to 20.
+    pub const TRANSITION_MIN: decimal::Number = decimal::Number {
+        negative: false,
+        mantissa: 100000,
+        place: 9,
+    };
+    pub const TRANSITION_MAX: decimal::Number = decimal::Number {
+        negative: false,
+        mantissa: 200000,
+        place: 10,
+    };
+
+    pub const FACTORY: Settings = Settings {
+        address: 1,
+        unit: PressureUnit::Mbar,
+        factor: 100,
+        control: 1,
+        cathode: 1,
+        filament: 0,
+        transition: Transition::Between(
+            decimal::Number {
+                negative: false,
+                mantissa: 500000,
+                place: 9,
+            },
+            decimal::Number {
+                negative: false,
+                mantissa: 150000,
+                place: 10,
+            },
+        ),
+        streaming: false,
+        sources: sources::Sources {
+            codes: [0, 0, 0, 0, 0, 0, 0],
+            count: 0,
+        },
+    };
+
+    // The settings as they leave the works.
+    pub fn at_factory() -> Settings
+        ensures { λ r. ⌜ r ≡ factory ⌝ }
+    {
+        Settings::FACTORY
+    }
+
+    // The factory value of one setting.
+    pub fn factory_value(key: Key) -> Setting
+        ensures { λ r. ⌜ r ≡ factoryOf key ⌝ }
+    {
+        let f = Settings::FACTORY;
+        let unit = f.unit;
+        let transition = f.transition;
+        match key {
+            Key::DA => Setting::Address(f.address),
+            Key::DU => Setting::PressureIn(unit),
+            Key::C1 => Setting::Factor(f.factor),
+            Key::CM => Setting::Control(f.control),
+            Key::CC => Setting::Cathode(f.cathode),
+            Key::FC => Setting::Filament(f.filament),
+            Key::ST => Setting::Switch(transition),
+            Key::SM => Setting::Stream(f.streaming),
+        }
+    }
+
+    fn with_unit(self, unit: PressureUnit) -> Settings
+        ensures { λ r. ⌜ r ≡ putOf self (Setting.PressureIn unit) (self .sources) ⌝ }
+    {
+        let sources = self.sources;
+        let transition = self.transition;
+        Settings {
+            address: self.address,
+            unit,
+            factor: self.factor,
+            control: self.control,
+            cathode: self.cathode,
+            filament: self.filament,
+            transition,
+            streaming: self.streaming,
+            sources,
+        }
+    }
+
+    fn with_transition(self, transition: Transition) -> Settings
+        ensures { λ r. ⌜ r ≡ putOf self (Setting.Switch transition) (self .sources) ⌝ }
+    {
+        let sources = self.sources;
+        let unit = self.unit;
+        Settings {
+            address: self.address,
+            unit,
+            factor: self.factor,
+            control: self.control,
+            cathode: self.cathode,
+            filament: self.filament,
+            transition,
+            streaming: self.streaming,
+            sources,
+        }
+    }
+
+    // The settings with one of them set, and no other changed. The list counts for Stream only.
+    pub fn with(self, setting: Setting, list: sources::Sources) -> Settings
+        ensures { λ r. ⌜ r ≡ putOf self setting list ⌝ }
+    {
+        let mut s = self;
+        match setting {
+            Setting::Address(v) => {
+                s.address = v;
+                s
+            }
+            Setting::PressureIn(v) => s.with_unit(v),
+            Setting::Factor(v) => {
+                s.factor = v;
+                s
+            }
+            Setting::Control(v) => {
+                s.control = v;
+                s
+            }
+            Setting::Cathode(v) => {
+                s.cathode = v;
+                s
+            }
+            Setting::Filament(v) => {
+                s.filament = v;
+                s
+            }
+            Setting::Switch(v) => s.with_transition(v),
+            Setting::Stream(v) => {
+                s.streaming = v;
+                s.sources = list;
+                s
+            }
+        }
+    }
+
+    // The settings with one of them at its factory value.
+    pub fn restored(self, key: Key) -> Settings
+        ensures { λ r. ⌜ r ≡ restoreOf self key ⌝ }
+    {
+        self.with(Settings::factory_value(key), sources::Sources::NONE)
+    }
+
+    // The text that a read of one setting sends.
+    pub fn text(self, key: Key) -> buffer::Text
+        ensures { λ r. ⌜ textOf r ≡ readText key self ⌝ }
+    {
+        let unit = self.unit;
+        let transition = self.transition;
+        let list = self.sources;
+        match key {
+            Key::DA => address_text(self.address),
+            Key::DU => unit_text(unit),
+            Key::C1 => decimal_text::two_decimals(false, self.factor),
+            Key::CM => digit_text(self.control),
+            Key::CC => digit_text(self.cathode),
+            Key::FC => digit_text(self.filament),
+            Key::ST => transition_text(transition),
+            Key::SM => stream_text(self.streaming, list),
+        }
+    }
+}
+
+// Three digits.
+pub fn address_text(address: u8) -> buffer::Text
+    ensures { λ r. ⌜ textOf r ≡ digits3 address ⌝ }
+{
+    let digits = [
+        address / 100 % 10 + 48,
+        address / 10 % 10 + 48,
+        address % 10 + 48,
+    ];
+    buffer::Text::EMPTY.add(&digits)
+}
+
+// `mbar`, `Torr` or `hPa`.
+pub fn unit_text(unit: PressureUnit) -> buffer::Text
+    ensures { λ r. ⌜ textOf r ≡ unitText unit ⌝ }
+{
+    match unit {
+        PressureUnit::Mbar => {
+            let t = [b'm', b'b', b'a', b'r'];
+            buffer::Text::EMPTY.add(&t)
+        }
+        PressureUnit::Torr => {
+            let t = [b'T', b'o', b'r', b'r'];
+            buffer::Text::EMPTY.add(&t)
+        }
+        PressureUnit::HPa => {
+            let t = [b'h', b'P', b'a'];
+            buffer::Text::EMPTY.add(&t)
+        }
+    }
+}
+
+// One digit.
+pub fn digit_text(d: u8) -> buffer::Text
+    ensures { λ r. ⌜ textOf r ≡ digit d ∷ [] ⌝ }
+{
+    buffer::Text::EMPTY.push(d % 10 + 48)
+}
+
+// `D` and a number, or `F`, a number, `T` and a number.
+pub fn transition_text(transition: Transition) -> buffer::Text
+    ensures { λ r. ⌜ textOf r ≡ transitionText transition ⌝ }
+{
+    match transition {
+        Transition::Direct(n) => buffer::Text::EMPTY.push(b'D').join(decimal_text::written(n)),
+        Transition::Between(low, high) => buffer::Text::EMPTY
+            .push(b'F')
+            .join(decimal_text::written(low))
+            .push(b'T')
+            .join(decimal_text::written(high)),
+    }
+}
+
+// `0`, or `4` and a list.
+pub fn stream_text(on: bool, list: sources::Sources) -> buffer::Text
+    ensures { λ r. ⌜ textOf r ≡ streamText on (listOf list) ⌝ }
+{
+    if on {
+        return sources::with_list(buffer::Text::EMPTY.push(b'4'), list);
+    }
+    buffer::Text::EMPTY.push(b'0')
+}

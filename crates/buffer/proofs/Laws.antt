@@ -1,16 +1,17 @@
 -- Laws of stores in lent memory, of answers and of short texts. Assumes nothing.
 use mathlib.Core.Path.{_≡_, refl, sym, ap, _∙_}
-use mathlib.Core.Bool.{Bool, true, false, cond}
+use mathlib.Core.Bool.{Bool, true, false, cond, _&&_, and-false, and-eq-true-iff}
 use mathlib.Core.List.{List, [], _∷_, _++_, append-assoc, append-nil}
 use Prim.Native.Nat.{ℕ, zero, suc, _+_, _-_, _*_, _^_, _<_, _≤_}
 use native.Mathlib.Nat.{add-zero, zero-add, add-suc, suc-add, pow-suc, pow-le-pow-right, sub-zero, zero-sub, suc-sub-suc}
 use native.Mathlib.Numerals.{add-one}
 use native.Mathlib.Omega.{arith}
-use lib.Dec.{eqb}
+use borrow.Author.Tests.{le-leb, lt-leb, leb-true}
+use lib.Dec.{eqb, leb}
 use lib.ListN.{length, getD, set, drop, take, length-take, length-drop, drop-of-length-le}
 use lib.Seq.{sets, sets-eq, drop-cons, take-at, take-all, take-append-le, take-append-add, set-out, take-nil}
 use Rattle.buffer.specs.Answer.{Answer, silent, over, Stored, Sent}
-use Rattle.buffer.specs.Byte.{untilOf, numeralFrom}
+use Rattle.buffer.specs.Byte.{within, sameText, untilOf, numeralFrom}
 use Rattle.buffer.specs.Text.{textOf, cut}
 use Rattle.buffer.specs.declared.Text.{Text}
 use Rattle.buffer.specs.declared.Written.{Written}
@@ -79,6 +80,40 @@ pub take-taken : (n : ℕ) (l : List ℕ) → take (length (take n l)) l ≡ tak
 take-taken zero l = refl
 take-taken (suc n) [] = refl
 take-taken (suc n) (x ∷ l) = ap (λ (r : List ℕ). x ∷ r) (take-taken n l)
+
+-- ---- limits
+
+pub within-true : (low high n : ℕ) → within low high n ≡ true → (low ≤ n) × (n ≤ high)
+unfolding within
+within-true low high n e =
+    let h = and-eq-true-iff (leb low n) (leb n high) .0 e in
+    (leb-true low n (h .0), leb-true n high (h .1))
+
+pub within-in : (low high n : ℕ) → low ≤ n → n ≤ high → within low high n ≡ true
+unfolding within
+within-in low high n h k = rw (le-leb low n h, le-leb n high k)
+
+pub within-below : (low high n : ℕ) → n < low → within low high n ≡ false
+unfolding within
+within-below low high n h = rw (lt-leb low n h)
+
+pub within-above : (low high n : ℕ) → high < n → within low high n ≡ false
+unfolding within
+within-above low high n h = rw (lt-leb n high h) (and-false (leb low n))
+
+-- ---- two texts
+
+-- texts of different lengths differ
+pub same-lengths : (s t : List ℕ) → (length s ≡ length t → ⊥) → sameText s t ≡ false
+unfolding sameText
+same-lengths [] [] h = absurd (h refl)
+same-lengths [] (y ∷ t) h = refl
+same-lengths (x ∷ s) [] h = refl
+same-lengths (x ∷ s) (y ∷ t) h = rw (same-lengths s t (λ (e : length s ≡ length t). h (ap suc e)))
+
+pub same-step : (s t : List ℕ) (i : ℕ) → i < length s → i < length t → sameText (drop i s) (drop i t) ≡ (sameText (drop (i + 1) s) (drop (i + 1) t) && eqb (getD s i 0) (getD t i 0))
+unfolding sameText
+same-step s t i h k = rw (drop-step s i h, drop-step t i k)
 
 -- ---- what stands before a byte
 

@@ -22,6 +22,13 @@ unfoldable pub every : {A : Type 0} → (A → Bool) → List A → Bool
 every p [] = true
 every p (x ∷ xs) = p x && every p xs
 
+-- two texts are the same
+unfoldable pub sameText : List ℕ → List ℕ → Bool
+sameText [] [] = true
+sameText [] (y ∷ t) = false
+sameText (x ∷ s) [] = false
+sameText (x ∷ s) (y ∷ t) = sameText s t && eqb x y
+
 -- how many elements stand before the first b, or the end
 unfoldable pub untilOf : ℕ → List ℕ → ℕ
 untilOf b [] = 0

@@ -4,7 +4,7 @@ ghost use mathlib.Core.List.{[], _∷_, _++_};
 ghost use lib.ListN.{length, take, drop};
 ghost use Prim.Native.Nat.{_<_, _-_};
 ghost use Rattle.buffer.specs.Answer.{Stored};
-ghost use Rattle.buffer.specs.Byte.{within, every, untilOf, numeral};
+ghost use Rattle.buffer.specs.Byte.{within, every, sameText, untilOf, numeral};
 ghost use Rattle.buffer.specs.Text.{textOf, cut};
 
 // An answer's number, and the length of its reply.
@@ -140,6 +140,23 @@ pub fn numeral_of(s: &[u8]) -> u32
         i += 1;
     }
     v
+}
+
+// Whether two texts are the same.
+pub fn is_same(s: &[u8], t: &[u8]) -> bool
+    ensures { λ r. ⌜ r ≡ sameText (now (s .entry)) (now (t .entry)) ⌝ }
+{
+    if s.len() != t.len() {
+        return false;
+    }
+    let mut i: usize = 0;
+    while i < s.len() {
+        if s[i] != t[i] {
+            return false;
+        }
+        i += 1;
+    }
+    true
 }
 
 // How many bytes stand before the first b, or the end.

@@ -11,7 +11,7 @@ use lib.Dec.{leb, eqb, eqb·zero-suc}
 use lib.ListN.{length, getD, take, drop, length-take, drop-of-length-le}
 use lib.Seq.{take-all}
 use Rattle.buffer.specs.Byte.{within, isDigit, every, numeralFrom, numeral}
-use Rattle.buffer.proofs.Laws.{drop-step, ten-step, ten-max}
+use Rattle.buffer.proofs.Laws.{drop-step, ten-step, ten-max, within-true}
 use Rattle.decimal.specs.Form.{leading, startsWith}
 
 -- ---- the digits at the front
@@ -35,12 +35,7 @@ leading-le (x ∷ s) = go (isDigit x) (leading-le s)
 
 -- a digit stands for 0 to 9
 pub digit-low : (x : ℕ) → isDigit x ≡ true → x - 48 < 10
-unfolding within
-digit-low x e = go (leb 48 x) e
-  where
-    go : (b : Bool) → (b && leb x 57) ≡ true → x - 48 < 10
-    go true h = omega (arith, leb-true x 57 h)
-    go false h = let z : _≡_ {A = ℕ} 0 1 = cc in omega arith
+digit-low x e = let h = within-true 48 57 x e in omega arith
 
 tens : (v p : ℕ) → (v * 10 + 10) * p ≡ (v + 1) * (p * 10)
 tens v p =

@@ -12,7 +12,7 @@ use lib.Seq.{take-all}
 use Rattle.buffer.specs.First.{pick}
 use Rattle.buffer.specs.Byte.{at, within, isDigit, every, numeralFrom, numeral}
 use Rattle.buffer.specs.Answer.{silent, Stored}
-use Rattle.buffer.proofs.Laws.{drop-step, then, front}
+use Rattle.buffer.proofs.Laws.{drop-step, then, front, within-true}
 use Rattle.buffer.proofs.Rules.{each, flag, unflag, rules}
 use Rattle.frames.specs.Checksum.{sumOf, endOf, closed}
 use Rattle.frames.specs.Frame.{isLetter, lengthFits, misshapen, wrongSum, wrongAddress, wrongLength}
@@ -66,12 +66,6 @@ module _ (room most address : ℕ) (bytes frame : List ℕ) where
   written h k o = sym (search rules)
 
 -- ---- limits
-
-pub within-true : (low high n : ℕ) → within low high n ≡ true → (low ≤ n) × (n ≤ high)
-unfolding within
-within-true low high n e =
-    let h = and-eq-true-iff (leb low n) (leb n high) .0 e in
-    (leb-true low n (h .0), leb-true n high (h .1))
 
 -- from low on the upper limit decides; below low it is false
 pub in-low : (low high n : ℕ) → low ≤ n → leb n high ≡ within low high n

@@ -17,7 +17,7 @@ use Rattle.frames.specs.Written.{frameV2, frameV1}
 use Rattle.frames.specs.declared.HeadV1.{HeadV1}
 use Rattle.frames.specs.declared.HeadV2.{HeadV2}
 use Rattle.frames.specs.declared.Frame.the-variants.{V1, V2}
-use Rattle.frames.proofs.Laws.{within-true}
+use Rattle.buffer.proofs.Laws.{within-true}
 
 -- ---- limits
 

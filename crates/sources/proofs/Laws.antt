@@ -12,7 +12,7 @@ use lib.Seq.{take-nil}
 use Rattle.buffer.specs.Byte.{within, isDigit, every, untilOf, digit}
 use Rattle.buffer.specs.First.{pick}
 use Rattle.buffer.proofs.Rules.{each}
-use Rattle.buffer.proofs.Laws.{drop-step}
+use Rattle.buffer.proofs.Laws.{drop-step, within-true}
 use Rattle.sources.specs.Source.{isSource, sourceText, listText, listOf}
 use Rattle.sources.specs.declared.Sources.{Sources}
 use Rattle.sources.specs.Entries.{onto, parts, sourceTexts}
@@ -44,12 +44,7 @@ long-form a b = go (isDigit a) (isDigit b) (eqb a 84)
 
 -- a digit is no `T`
 pub digit-no-T : (a : ℕ) → isDigit a ≡ true → eqb a 84 ≡ false
-unfolding within
-digit-no-T a e = go (leb 48 a) e
-  where
-    go : (b : Bool) → (b && leb a 57) ≡ true → eqb a 84 ≡ false
-    go true h = ne-eqb a 84 (λ (z : a ≡ 84). omega (arith, leb-true a 57 h))
-    go false h = absurd (true≢false (sym h))
+digit-no-T a e = ne-eqb a 84 (λ (z : a ≡ 84). let h = within-true 48 57 a e in omega arith)
 
 pub not-short : (n : ℕ) → (n ≡ 1 → ⊥) → (n ≡ 2 → ⊥) → within 1 2 n ≡ false
 unfolding within

@@ -5,7 +5,7 @@ use Prim.Native.Nat.{ℕ}
 use lib.Dec.{eqb}
 use lib.ListN.{length, take}
 use Rattle.buffer.specs.First.{Row, _⇒_, first, pick}
-use Rattle.buffer.specs.Byte.{at, within, isDigit, every, digit}
+use Rattle.buffer.specs.Byte.{at, within, isDigit, every, sameText, digit}
 use Rattle.sources.specs.declared.Source.{Source}
 use Rattle.sources.specs.declared.Source.the-variants.{Known, Unknown, Malformed}
 use Rattle.sources.specs.declared.Sources.{Sources}
@@ -21,13 +21,6 @@ mostEntries = 7
 -- the text of a source's code
 unfoldable pub sourceText : ℕ → List ℕ
 sourceText c = first (eqb c 8 ⇒ (84 ∷ 50 ∷ []) ∷ eqb c 9 ⇒ (84 ∷ 54 ∷ []) ∷ []) (digit c ∷ [])
-
--- two texts are the same
-unfoldable pub sameText : List ℕ → List ℕ → Bool
-sameText [] [] = true
-sameText [] (y ∷ t) = false
-sameText (x ∷ s) [] = false
-sameText (x ∷ s) (y ∷ t) = sameText s t && eqb x y
 
 -- "one or two digits, or `T` and a digit"
 unfoldable pub isSource : List ℕ → Bool

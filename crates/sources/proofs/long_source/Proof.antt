@@ -7,7 +7,8 @@ use mathlib.Core.Bool.{true, false, and-false, or-true}
 use Prim.Native.Nat.{ℕ}
 use borrow.Author.Tests.{eq-eqb, ne-eqb, not-true, not-false}
 use Rattle.buffer.specs.First.{pick}
-use Rattle.sources.specs.Source.{knownSources, sourceOf, isSource, findSource, sourceText, sameText}
+use Rattle.sources.specs.Source.{knownSources, sourceOf, isSource, findSource, sourceText}
+use Rattle.buffer.specs.Byte.{sameText}
 use Rattle.sources.proofs.Laws.{long-form, digit-no-T}
 use Rattle.sources.proofs.long_source.Statement.{statement}
 use Rattle.sources.proofs.long_source.Tie as tie

@@ -7,8 +7,8 @@ use mathlib.Core.Bool.{and-false}
 use Prim.Native.Nat.{ℕ}
 use borrow.Author.Tests.{ne-eqb, not-true, not-false}
 use Rattle.buffer.specs.First.{pick}
-use Rattle.buffer.specs.Byte.{every, within}
-use Rattle.sources.specs.Source.{knownSources, sourceOf, isSource, findSource, sourceText, sameText}
+use Rattle.buffer.specs.Byte.{every, within, sameText}
+use Rattle.sources.specs.Source.{knownSources, sourceOf, isSource, findSource, sourceText}
 use Rattle.sources.proofs.Laws.{short-form}
 use Rattle.sources.proofs.short_source.Statement.{statement}
 use Rattle.sources.proofs.short_source.Tie as tie

@@ -1,0 +1,41 @@
+-- `forms::judge_stream` meets its contract. Assumes nothing.
+use mathlib.Core.Path.{_≡_, refl, sym, ap, _∙_}
+use borrow.Author.Needs.{needs}
+use Rattle.sources.specs.Source.{listOf}
+use Rattle.forms.specs.Forms.{streamData}
+use Rattle.forms.specs.Judged.{ifSet, JudgesStream}
+use Rattle.forms.specs.declared.Verdict.{Verdict}
+use Rattle.forms.proofs.judge_stream.Statement.{statement}
+use Rattle.forms.proofs.judge_stream.Tie as tie
+
+-- the entries are what follows the mode
+returns : tie.Need-returns
+unfolding streamData ifSet
+returns c =
+    let l = c .before .before .before .before .before .read-entries .ensures in
+    let t = c .before .before .before .before .before .before .rest .ensures in
+    let v = rw (l .number, t) at (c .before .before .before .stream-verdict .ensures) in
+    let e = c .before .x .given .1 in
+    record { verdict = sym e ∙ v; list = rw (← v, e) (rw t at (l .list)) }
+
+returns-2 : tie.Need-returns-2
+unfolding streamData ifSet
+returns-2 c =
+    let l = c .before .before .before .before .before .before .read-entries .ensures in
+    let t = c .before .before .before .before .before .before .before .rest .ensures in
+    let v = rw (l .number, t) at (c .before .before .before .before .stream-verdict .ensures) in
+    let e = c .before .before .k .given .1 in
+    record { verdict = c .refused .ensures .0 ∙ sym e ∙ v; list = rw (← v, e) (c .refused .ensures .1) }
+
+pub judge-stream-spec : {M : Type 1} → statement M
+judge-stream-spec =
+    tie.close
+    (tie.spec
+    (λ c κs. search needs)
+    (λ c κs. search needs)
+    (λ c κs. search needs)
+    (λ c. search needs)
+    (λ c. search needs)
+    (λ c κs. search needs)
+    returns
+    returns-2)

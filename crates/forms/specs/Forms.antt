@@ -1,0 +1,131 @@
+-- The data of each setting: its form, else 10 SYNTAX; its numbers, else 11 RANGE; and F below T, else 12 LOGIC. Assumes nothing.
+use mathlib.Core.Bool.{Bool, true, false, not, _&&_, _||_}
+use mathlib.Core.List.{List, [], _∷_}
+use Prim.Native.Nat.{ℕ, _+_, _-_, min}
+use lib.Dec.{ltb, leb, eqb}
+use lib.ListN.{length, take, drop}
+use Rattle.buffer.specs.First.{Row, _⇒_, first}
+use Rattle.buffer.specs.Byte.{at, within, isDigit, every, sameText, untilOf, numeral}
+use Rattle.decimal.specs.Form.{leading, startsWith, numberOf}
+use Rattle.decimal.specs.Number.{belowOf, hundredthsOf}
+use Rattle.decimal.specs.declared.Parsed.{Parsed}
+use Rattle.decimal.specs.declared.Parsed.the-variants.{Value, Syntax, Range}
+use Rattle.decimal.specs.declared.Hundredths.{Hundredths}
+use Rattle.decimal.specs.declared.Hundredths.the-variants.{Whole, Other}
+use Rattle.sources.specs.Entries.{entriesNumber}
+use Rattle.settings.specs.Limits.{standard}
+use Rattle.settings.specs.Sent.{unitText}
+use Rattle.settings.specs.declared.PressureUnit.{PressureUnit}
+use Rattle.settings.specs.declared.PressureUnit.the-variants.{Mbar, Torr, HPa}
+use Rattle.settings.specs.declared.Transition.{Transition}
+use Rattle.settings.specs.declared.Transition.the-variants.{Direct, Between}
+use Rattle.settings.specs.declared.Setting.{Setting}
+use Rattle.settings.specs.declared.Setting.the-variants.{Address, PressureIn, Factor, Control, Cathode, Filament, Switch, Stream}
+use Rattle.forms.specs.declared.Digit.{Digit}
+use Rattle.forms.specs.declared.Digit.the-variants.{Is, Isnt}
+use Rattle.forms.specs.declared.Limited.{Limited}
+use Rattle.forms.specs.declared.Limited.the-variants.{Fine, Bad}
+use Rattle.forms.specs.declared.Verdict.{Verdict}
+use Rattle.forms.specs.declared.Verdict.the-variants.{Set, Refused}
+
+-- DA: "`001` to `016`"; "DA without three digits" is SYNTAX
+unfoldable pub addressData : List ℕ → Verdict
+addressData s =
+    first
+    (not (eqb (length s) 3) ⇒ Refused 10
+    ∷ not (every isDigit s) ⇒ Refused 10
+    ∷ not (within (standard .addressLow) (standard .addressHigh) (numeral s)) ⇒ Refused 11
+    ∷ [])
+    (Set (Address (numeral s)))
+
+-- DU: "`mbar`, `Torr`, `hPa`"; "Other texts for DU" are SYNTAX
+unfoldable pub unitData : List ℕ → Verdict
+unitData s =
+    first
+    (sameText s (unitText Mbar) ⇒ Set (PressureIn Mbar)
+    ∷ sameText s (unitText Torr) ⇒ Set (PressureIn Torr)
+    ∷ sameText s (unitText HPa) ⇒ Set (PressureIn HPa)
+    ∷ [])
+    (Refused 10)
+
+-- C1: "a number, whole hundredths, 0.20 to 8.00, else RANGE"
+unfoldable pub factorIn : Hundredths → Verdict
+factorIn (Whole h) = first (not (within (standard .factorLow) (standard .factorHigh) h) ⇒ Refused 11 ∷ []) (Set (Factor h))
+factorIn Other = Refused 11
+
+unfoldable pub factorOf : Parsed → Verdict
+factorOf Syntax = Refused 10
+factorOf Range = Refused 11
+factorOf (Value n) = first (n .negative ⇒ Refused 11 ∷ []) (factorIn (hundredthsOf n))
+
+-- "One-digit settings: any other digit is RANGE, anything else SYNTAX": the largest digit is `most`
+unfoldable pub digitData : ℕ → List ℕ → Digit
+digitData most s =
+    first
+    (not (eqb (length s) 1) ⇒ Isnt 10
+    ∷ not (isDigit (at s 0)) ⇒ Isnt 10
+    ∷ ltb most (at s 0 - 48) ⇒ Isnt 11
+    ∷ [])
+    (Is (at s 0 - 48))
+
+-- CM, CC and FC
+unfoldable pub digitOf : (ℕ → Setting) → Digit → Verdict
+digitOf setting (Is d) = Set (setting d)
+digitOf setting (Isnt k) = Refused k
+
+-- a number of ST: "each 1 to 20"
+unfoldable pub limitedOf : Parsed → Limited
+limitedOf Syntax = Bad 10
+limitedOf Range = Bad 11
+limitedOf (Value n) =
+    first
+    (belowOf n (standard .transitionLow) ⇒ Bad 11
+    ∷ belowOf (standard .transitionHigh) n ⇒ Bad 11
+    ∷ [])
+    (Fine n)
+
+unfoldable pub directOf : Limited → Verdict
+directOf (Fine n) = Set (Switch (Direct n))
+directOf (Bad k) = Refused k
+
+-- SYNTAX of either number comes before RANGE of the other. "ST's F must lie strictly below T, else LOGIC."
+unfoldable pub betweenOf : Limited → Limited → Verdict
+betweenOf (Fine low) (Fine high) = first (not (belowOf low high) ⇒ Refused 12 ∷ []) (Set (Switch (Between low high)))
+betweenOf (Fine low) (Bad k) = Refused k
+betweenOf (Bad j) (Fine high) = Refused j
+betweenOf (Bad j) (Bad k) = Refused (min j k)
+
+-- ST: "`D` number, or `F` number `T` number"
+unfoldable pub transitionData : List ℕ → Verdict
+transitionData s =
+    let t = drop 1 s in
+    let k = untilOf 84 t in
+    first
+    (startsWith 68 s ⇒ directOf (limitedOf (numberOf t))
+    ∷ not (startsWith 70 s) ⇒ Refused 10
+    ∷ leb (length t) k ⇒ Refused 10
+    ∷ [])
+    (betweenOf (limitedOf (numberOf (take k t))) (limitedOf (numberOf (drop (k + 1) t))))
+
+-- SM: "`0` off, or `4` and up to seven sources". "`0` with a list is SYNTAX"
+unfoldable pub idleList : List ℕ → Bool
+idleList s = startsWith 48 s && leb 2 (length s)
+
+-- "other one-digit modes (list or none) are RANGE"
+unfoldable pub knownMode : List ℕ → Bool
+knownMode s = startsWith 48 s || startsWith 52 s
+
+-- the mode stands before the entries, which are judged with n
+unfoldable pub streamOf : List ℕ → ℕ → Verdict
+streamOf s n =
+    first
+    (eqb (leading s) 0 ⇒ Refused 10
+    ∷ eqb n 10 ⇒ Refused 10
+    ∷ idleList s ⇒ Refused 10
+    ∷ not (knownMode s) ⇒ Refused 11
+    ∷ eqb n 11 ⇒ Refused 11
+    ∷ [])
+    (Set (Stream (startsWith 52 s)))
+
+unfoldable pub streamData : List ℕ → Verdict
+streamData s = streamOf s (entriesNumber (drop 1 s))

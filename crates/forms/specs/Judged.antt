@@ -1,0 +1,52 @@
+-- How the data of a write are judged. Assumes nothing.
+use mathlib.Core.Path.{_≡_}
+use mathlib.Core.List.{List, []}
+use Prim.Native.Nat.{ℕ}
+use lib.ListN.{drop}
+use Rattle.decimal.specs.Form.{numberOf}
+use Rattle.sources.specs.Source.{listOf}
+use Rattle.sources.specs.Entries.{entriesList}
+use Rattle.settings.specs.Limits.{standard}
+use Rattle.settings.specs.declared.Key.{Key}
+use Rattle.settings.specs.declared.Key.the-variants.{DA, DU, C1, CM, CC, FC, ST, SM}
+use Rattle.settings.specs.declared.Setting.the-variants.{Control, Cathode, Filament}
+use Rattle.forms.specs.Forms.{addressData, unitData, factorOf, digitData, digitOf, transitionData, streamData}
+use Rattle.forms.specs.declared.Judged.{Judged}
+use Rattle.forms.specs.declared.Verdict.{Verdict}
+use Rattle.forms.specs.declared.Verdict.the-variants.{Set, Refused}
+
+-- the column "Data", a line for each setting
+unfoldable pub verdictOf : Key → List ℕ → Verdict
+verdictOf DA s = addressData s
+verdictOf DU s = unitData s
+verdictOf C1 s = factorOf (numberOf s)
+verdictOf CM s = digitOf Control (digitData (standard .controlHigh) s)
+verdictOf CC s = digitOf Cathode (digitData (standard .cathodeHigh) s)
+verdictOf FC s = digitOf Filament (digitData (standard .filamentHigh) s)
+verdictOf ST s = transitionData s
+verdictOf SM s = streamData s
+
+-- what stands beside an accepted setting
+unfoldable pub ifSet : Verdict → List ℕ → List ℕ
+ifSet (Set x) list = list
+ifSet (Refused k) list = []
+
+-- the sources that an accepted write of SM lists; none otherwise
+unfoldable pub listIn : Key → List ℕ → List ℕ
+listIn DA s = []
+listIn DU s = []
+listIn C1 s = []
+listIn CM s = []
+listIn CC s = []
+listIn FC s = []
+listIn ST s = []
+listIn SM s = ifSet (streamData s) (entriesList (drop 1 s))
+
+pub record Judges (key : Key) (s : List ℕ) (r : Judged) : Type 0 where
+  pub verdict : r .verdict ≡ verdictOf key s
+  pub list : listOf (r .sources) ≡ listIn key s
+
+-- the same of SM's data alone
+pub record JudgesStream (s : List ℕ) (r : Judged) : Type 0 where
+  pub verdict : r .verdict ≡ streamData s
+  pub list : listOf (r .sources) ≡ ifSet (streamData s) (entriesList (drop 1 s))

@@ -1,7 +1,7 @@
 -- Laws of the checksum and of frames. Assumes nothing.
 use mathlib.Core.Path.{_≡_, refl, sym, ap, _∙_}
 use mathlib.Core.Bool.{Bool, true, false, not, true≢false, false≢true, and-eq-true-iff}
-use mathlib.Core.List.{List, [], _∷_}
+use mathlib.Core.List.{List, [], _∷_, _++_}
 use Prim.Native.Nat.{ℕ, _+_, _-_, _*_, _<_, _≤_}
 use native.Mathlib.Nat.{zero-add}
 use native.Mathlib.Omega.{arith}
@@ -33,13 +33,9 @@ sum-end s i h = ap sumOf (drop-of-length-le s h)
 
 -- ---- frames
 
-pub length-v2 : (h : HeadV2) (bytes : List ℕ) → length (frameV2 h bytes) ≡ length bytes + 10
-unfolding frameV2 closed endOf
-length-v2 h bytes = simp length-append (omega arith)
-
-pub length-v1 : (h : HeadV1) (bytes : List ℕ) → length (frameV1 h bytes) ≡ length bytes + 6
-unfolding frameV1 closed endOf
-length-v1 h bytes = simp length-append (omega arith)
+pub length-closed : (head bytes : List ℕ) → length (closed (head ++ bytes)) ≡ length head + length bytes + 2
+unfolding closed endOf
+length-closed head bytes = simp length-append (omega arith)
 
 -- a body stored at the front, and then its checksum and CR: the closed body is stored
 pub closes : {m m₁ m₂ b : List ℕ} (p : ℕ) → Stored m 0 b m₁ → p ≡ length b → length b ≤ length m → Stored m₁ p (endOf (take p m₁)) m₂ → Stored m 0 (closed b) m₂

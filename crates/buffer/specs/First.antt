@@ -7,7 +7,6 @@ pub data Row (A : Type 0) : Type 0 where
   _⇒_ : Bool → A → Row A
 
 infixr 75 _⇒_
-
 -- a where the test holds, and b otherwise
 unfoldable pub pick : {A : Type 0} → Bool → A → A → A
 pick true a b = a

@@ -85,7 +85,7 @@ whole-below m p h = go (eqb (m % 10 ^ (12 - p)) 0) refl
         eq-eqb (m * 10 ^ p % 10 ^ 12) 0 (rw (twelve p h) (mod-eq-zero-of-dvd (10 ^ (12 - p) * 10 ^ p) d)) ∙ sym e
     go false e =
         ne-eqb (m * 10 ^ p % 10 ^ 12) 0 (λ z. eqb-false _ _ e
-          (mod-eq-zero-of-dvd (10 ^ (12 - p)) (dvd-of-mul-dvd-mul-right (10 ^ (12 - p)) (ten-pos p) (dvd-of-mod-eq-zero (10 ^ (12 - p) * 10 ^ p) (rw (twelve p h) at z))))) ∙ sym e
+        (mod-eq-zero-of-dvd (10 ^ (12 - p)) (dvd-of-mul-dvd-mul-right (10 ^ (12 - p)) (ten-pos p) (dvd-of-mod-eq-zero (10 ^ (12 - p) * 10 ^ p) (rw (twelve p h) at z))))) ∙ sym e
 
 pub count-below : (m p : ℕ) → p ≤ 12 → m * 10 ^ p / 10 ^ 12 ≡ m / 10 ^ (12 - p)
 count-below m p h =

@@ -128,8 +128,10 @@ written-le n = go (eqb (n .mantissa) 0)
   where
     full : List ℕ
     full = signText (n .negative) ++ (digit (n .mantissa / 100000) ∷ []) ++ pointed (trimmed (digits5 (n .mantissa))) ++ (101 ∷ []) ++ exponentText (n .place)
+
     all : length full ≤ 10 + cond (n .negative) 1 0
     all = simp length-append (omega (arith, sign-le (n .negative), point-le (trimmed (digits5 (n .mantissa))), trim-le (digits5 (n .mantissa)), exponent-le (n .place)))
+
     go : (b : Bool) → length (pick b (48 ∷ []) full) ≤ 10 + cond (n .negative) 1 0
     go b = each (λ (l : List ℕ). length l ≤ 10 + cond (n .negative) 1 0) b (48 ∷ []) full (λ _. omega arith) (λ _. all)
 

@@ -181,7 +181,9 @@ fn direct(n: Limited) -> Verdict
     ensures { λ r. ⌜ r ≡ directOf n ⌝ }
 {
     match n {
-        Limited::Fine(v) => Verdict::Set(settings::Setting::Switch(settings::Transition::Direct(v))),
+        Limited::Fine(v) => Verdict::Set(settings::Setting::Switch(settings::Transition::Direct(
+            v,
+        ))),
         Limited::Bad(k) => Verdict::Refused(k),
     }
 }

@@ -190,7 +190,13 @@ pub fn is_address(address: u16) -> bool
 
 // Writes a whole frame at the front of out: its head, the data and the end. Refuses with 1 where it does not fit, with 2 where the
 // data are over `most` bytes, with 4 where the address lies outside 1 to 999; then out stays as it was.
-fn write_frame(out: &mut [u8], address: u16, head: &[u8], bytes: &[u8], most: usize) -> buffer::Written
+fn write_frame(
+    out: &mut [u8],
+    address: u16,
+    head: &[u8],
+    bytes: &[u8],
+    most: usize,
+) -> buffer::Written
     requires { ⌜ length (now head) ≤ 8 ⌝ }
     ensures { λ r. ⌜ Sent (now (out .entry)) (frameWritten (length (now (out .entry))) most address (now (bytes .entry)) (closed (now (head .entry) ++ now (bytes .entry)))) (now (out .exit)) r ⌝ }
 {
@@ -310,7 +316,14 @@ pub fn write_error_v1(out: &mut [u8], head: HeadV1, number: u8) -> buffer::Writt
     let address = head.address;
     if number == 8 {
         let text = [b'O', b'_', b'D', b'E', b'F'];
-        return write_v1(out, HeadV1 { address, letter: b'N' }, &text);
+        return write_v1(
+            out,
+            HeadV1 {
+                address,
+                letter: b'N',
+            },
+            &text,
+        );
     }
     if number == 11 {
         let text = error_bytes(ErrorText::Range);
@@ -318,7 +331,14 @@ pub fn write_error_v1(out: &mut [u8], head: HeadV1, number: u8) -> buffer::Writt
     }
     if number == 13 {
         let text = [b'1'];
-        return write_v1(out, HeadV1 { address, letter: b'M' }, &text);
+        return write_v1(
+            out,
+            HeadV1 {
+                address,
+                letter: b'M',
+            },
+            &text,
+        );
     }
     let text = error_bytes(ErrorText::Logic);
     write_v1(out, head, &text)

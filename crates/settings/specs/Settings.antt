@@ -31,15 +31,19 @@ factoryOf FC = Filament (factory .filament)
 factoryOf ST = Switch (factory .transition)
 factoryOf SM = Stream (factory .streaming)
 
+-- the settings with this unit and this transition
+unfoldable pub bothOf : Settings → PressureUnit → Transition → Settings
+bothOf s u t = record { address = s .address; unit = u; factor = s .factor; control = s .control; cathode = s .cathode; filament = s .filament; transition = t; streaming = s .streaming; sources = s .sources }
+
 -- the settings with one of them set, and no other changed; the list counts for SM only
 unfoldable pub putOf : Settings → Setting → Sources → Settings
 putOf s (Address v) list = record { address = v; unit = s .unit; factor = s .factor; control = s .control; cathode = s .cathode; filament = s .filament; transition = s .transition; streaming = s .streaming; sources = s .sources }
-putOf s (PressureIn v) list = record { address = s .address; unit = v; factor = s .factor; control = s .control; cathode = s .cathode; filament = s .filament; transition = s .transition; streaming = s .streaming; sources = s .sources }
+putOf s (PressureIn v) list = bothOf s v (s .transition)
 putOf s (Factor v) list = record { address = s .address; unit = s .unit; factor = v; control = s .control; cathode = s .cathode; filament = s .filament; transition = s .transition; streaming = s .streaming; sources = s .sources }
 putOf s (Control v) list = record { address = s .address; unit = s .unit; factor = s .factor; control = v; cathode = s .cathode; filament = s .filament; transition = s .transition; streaming = s .streaming; sources = s .sources }
 putOf s (Cathode v) list = record { address = s .address; unit = s .unit; factor = s .factor; control = s .control; cathode = v; filament = s .filament; transition = s .transition; streaming = s .streaming; sources = s .sources }
 putOf s (Filament v) list = record { address = s .address; unit = s .unit; factor = s .factor; control = s .control; cathode = s .cathode; filament = v; transition = s .transition; streaming = s .streaming; sources = s .sources }
-putOf s (Switch v) list = record { address = s .address; unit = s .unit; factor = s .factor; control = s .control; cathode = s .cathode; filament = s .filament; transition = v; streaming = s .streaming; sources = s .sources }
+putOf s (Switch v) list = bothOf s (s .unit) v
 putOf s (Stream v) list = record { address = s .address; unit = s .unit; factor = s .factor; control = s .control; cathode = s .cathode; filament = s .filament; transition = s .transition; streaming = v; sources = list }
 
 -- the settings with one of them at its factory value

@@ -5,7 +5,7 @@ ghost use mathlib.Core.List.{[], _∷_};
 ghost use Rattle.buffer.specs.Text.{textOf};
 ghost use Rattle.buffer.specs.Byte.{digit, digits3};
 ghost use Rattle.sources.specs.Source.{listOf};
-ghost use Rattle.settings.specs.Settings.{factory, factoryOf, putOf, restoreOf};
+ghost use Rattle.settings.specs.Settings.{factory, factoryOf, bothOf, putOf, restoreOf};
 ghost use Rattle.settings.specs.Sent.{unitText, transitionText, streamText, readText};
 
 // The unit of pressure, DU.
@@ -61,11 +61,17 @@ pub struct Settings {
 
 impl Settings {
     pub const ADDRESS_MIN: u8 = 1;
+
     pub const ADDRESS_MAX: u8 = 16;
+
     pub const FACTOR_MIN: u16 = 20;
+
     pub const FACTOR_MAX: u16 = 800;
+
     pub const CONTROL_MAX: u8 = 1;
+
     pub const CATHODE_MAX: u8 = 1;
+
     pub const FILAMENT_MAX: u8 = 3;
 
     // The numbers of ST lie from 1 to 20.
@@ -74,6 +80,7 @@ impl Settings {
         mantissa: 100000,
         place: 9,
     };
+
     pub const TRANSITION_MAX: decimal::Number = decimal::Number {
         negative: false,
         mantissa: 200000,
@@ -132,29 +139,11 @@ impl Settings {
         }
     }
 
-    fn with_unit(self, unit: PressureUnit) -> Settings
-        ensures { λ r. ⌜ r ≡ putOf self (Setting.PressureIn unit) (self .sources) ⌝ }
+    // The settings made anew: a field that is an enum is not stored to.
+    fn with_both(self, unit: PressureUnit, transition: Transition) -> Settings
+        ensures { λ r. ⌜ r ≡ bothOf self unit transition ⌝ }
     {
         let sources = self.sources;
-        let transition = self.transition;
-        Settings {
-            address: self.address,
-            unit,
-            factor: self.factor,
-            control: self.control,
-            cathode: self.cathode,
-            filament: self.filament,
-            transition,
-            streaming: self.streaming,
-            sources,
-        }
-    }
-
-    fn with_transition(self, transition: Transition) -> Settings
-        ensures { λ r. ⌜ r ≡ putOf self (Setting.Switch transition) (self .sources) ⌝ }
-    {
-        let sources = self.sources;
-        let unit = self.unit;
         Settings {
             address: self.address,
             unit,
@@ -173,12 +162,14 @@ impl Settings {
         ensures { λ r. ⌜ r ≡ putOf self setting list ⌝ }
     {
         let mut s = self;
+        let unit = self.unit;
+        let transition = self.transition;
         match setting {
             Setting::Address(v) => {
                 s.address = v;
                 s
             }
-            Setting::PressureIn(v) => s.with_unit(v),
+            Setting::PressureIn(v) => s.with_both(v, transition),
             Setting::Factor(v) => {
                 s.factor = v;
                 s
@@ -195,7 +186,7 @@ impl Settings {
                 s.filament = v;
                 s
             }
-            Setting::Switch(v) => s.with_transition(v),
+            Setting::Switch(v) => s.with_both(unit, v),
             Setting::Stream(v) => {
                 s.streaming = v;
                 s.sources = list;
@@ -275,7 +266,9 @@ pub fn transition_text(transition: Transition) -> buffer::Text
     ensures { λ r. ⌜ textOf r ≡ transitionText transition ⌝ }
 {
     match transition {
-        Transition::Direct(n) => buffer::Text::EMPTY.push(b'D').join(decimal_text::written(n)),
+        Transition::Direct(n) => buffer::Text::EMPTY
+            .push(b'D')
+            .join(decimal_text::written(n)),
         Transition::Between(low, high) => buffer::Text::EMPTY
             .push(b'F')
             .join(decimal_text::written(low))

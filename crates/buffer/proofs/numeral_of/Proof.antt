@@ -28,9 +28,12 @@ returns c =
 loop-again : tie.Need-loop-again Inv-loop μ-loop
 loop-again c =
     let l = c .before .before .before .before .loop in
-    let s = c .before .before .before .before .before .before .args .s .now in
-    (omega arith, omega arith, omega (arith, ten-step (l .i), c .before .shared-slice-known2 .given (l .i)),
-      rw (c .value .ensures) (sym (numeral-step s (l .v) (l .i) 6 (omega arith) (omega arith)) ∙ l .inv .3))
+    let s = c .before .before .before .before .before .before .args .s .now in (
+      omega arith,
+      omega arith,
+      omega (arith, ten-step (l .i), c .before .shared-slice-known2 .given (l .i)),
+      rw (c .value .ensures) (sym (numeral-step s (l .v) (l .i) 6 (omega arith) (omega arith)) ∙ l .inv .3),
+    )
 
 returns-2 : tie.Need-returns-2 Inv-loop μ-loop
 unfolding numeralFrom

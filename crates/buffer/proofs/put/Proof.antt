@@ -28,9 +28,12 @@ returns c =
 loop-again : tie.Need-loop-again Inv-loop μ-loop
 loop-again c =
     let l = c .before .before .before .loop in
-    let a = c .before .before .before .before .args in
-    (omega arith, simp length-set (omega arith), simp length-set (omega arith),
-      rw (← (add-assoc (a .at) (l .i) 1)) (sym (sets-step (l .out) (a .src .now) (a .at + l .i) (l .i) (omega arith)) ∙ l .inv .3))
+    let a = c .before .before .before .before .args in (
+      omega arith,
+      simp length-set (omega arith),
+      simp length-set (omega arith),
+      rw (← (add-assoc (a .at) (l .i) 1)) (sym (sets-step (l .out) (a .src .now) (a .at + l .i) (l .i) (omega arith)) ∙ l .inv .3),
+    )
 
 returns-2 : tie.Need-returns-2 Inv-loop μ-loop
 returns-2 c =

@@ -21,7 +21,7 @@ unfolding writtenOf pick
 returns-2 c =
     let n = c .before .before .before .before .before .args .n in
     let cutted : textOf (c .with-exponent .result) ≡ cut (writtenOf n) =
-        rw (ne-eqb _ _ (c .before .before .before .before .if1 .left), c .with-exponent .ensures, c .before .with-fraction .ensures, c .before .before .push2 .ensures, c .before .before .before .sign .ensures) (simp (cut-cut, append-assoc)) in
+    rw (ne-eqb _ _ (c .before .before .before .before .if1 .left), c .with-exponent .ensures, c .before .with-fraction .ensures, c .before .before .push2 .ensures, c .before .before .before .sign .ensures) (simp (cut-cut, append-assoc)) in
     cutted ∙ cut-fits (writtenOf n) (written-fits n)
 
 pub written-spec : {M : Type 1} → statement M

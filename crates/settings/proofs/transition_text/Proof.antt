@@ -24,7 +24,7 @@ returns-2 c =
     let e = c .before .before .before .before .before .before .before .transition2 .given .1 in
     let t = c .before .before .before .before .before .before .before .before .before .args .transition in
     let whole : textOf (c .join3 .result) ≡ cut (transitionText t) =
-        rw (e, c .join3 .ensures, c .before .written3 .ensures, c .before .before .push3 .ensures, c .before .before .before .join2 .ensures, c .before .before .before .before .written2 .ensures, c .before .before .before .before .before .push2 .ensures) (simp (cut-cut, append-assoc)) in
+    rw (e, c .join3 .ensures, c .before .written3 .ensures, c .before .before .push3 .ensures, c .before .before .before .join2 .ensures, c .before .before .before .before .written2 .ensures, c .before .before .before .before .before .push2 .ensures) (simp (cut-cut, append-assoc)) in
     whole ∙ cut-fits (transitionText t) (transition-le t)
 
 pub transition-text-spec : {M : Type 1} → statement M

@@ -38,9 +38,11 @@ loop-holds c = (omega arith, rw (c .add .ensures) (cut-again _), refl)
 loop-again : tie.Need-loop-again Inv-loop μ-loop
 loop-again c =
     let l = c .before .before .loop in
-    let z = c .before .before .before .before .before .before in
-    (omega arith, rw (c .with-source .ensures) (cut-again _),
-      rw (c .with-source .ensures, cut-cut, append-assoc) (rw (list-step (z .before .args .list .codes) (z .size .result) (l .i) (size-le z) (omega arith)) at (l .inv .2)))
+    let z = c .before .before .before .before .before .before in (
+      omega arith,
+      rw (c .with-source .ensures) (cut-again _),
+      rw (c .with-source .ensures, cut-cut, append-assoc) (rw (list-step (z .before .args .list .codes) (z .size .result) (l .i) (size-le z) (omega arith)) at (l .inv .2)),
+    )
 
 returns : tie.Need-returns Inv-loop μ-loop
 unfolding listOf listText

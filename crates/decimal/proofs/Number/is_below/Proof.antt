@@ -27,7 +27,7 @@ returns-3 : tie.Need-returns-3
 unfolding belowOf plus minus units
 returns-3 c =
     let a = c .before .before .before .before .args in
-    rw (c .before .before .before .if1 .taken, c .before .before .if2 .left) 
+    rw (c .before .before .before .if1 .taken, c .before .before .if2 .left)
     (sym (lt-ltb 0 (units (a .other) + units (a .self)) (omega (arith, units-pos (a .self .mantissa) (a .self .place) (search needs)))))
 
 returns-4 : tie.Need-returns-4

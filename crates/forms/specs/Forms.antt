@@ -102,7 +102,7 @@ transitionData s =
     let k = untilOf 84 t in
     first
     (startsWith 68 s ⇒ directOf (limitedOf (numberOf t))
-    ∷ not (startsWith 70 s) ⇒ Refused 10
+    ∷ not (standard .betweenForm && startsWith 70 s) ⇒ Refused 10
     ∷ leb (length t) k ⇒ Refused 10
     ∷ [])
     (betweenOf (limitedOf (numberOf (take k t))) (limitedOf (numberOf (drop (k + 1) t))))

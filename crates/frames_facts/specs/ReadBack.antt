@@ -5,7 +5,7 @@ use mathlib.Core.List.{List, [], _∷_, _++_}
 use Prim.Native.Nat.{ℕ, _+_, _-_, _/_, _<_, _≤_}
 use native.Mathlib.Nat.{div-div-eq-div-mul}
 use native.Mathlib.Omega.{arith}
-use borrow.Author.Tests.{le-leb, lt-leb, eq-eqb, ne-eqb}
+use borrow.Author.Tests.{eq-eqb, ne-eqb}
 use lib.ListN.{length, take, drop, length-append}
 use lib.Seq.{take-at, getD-at, getD-append-add}
 use Rattle.buffer.specs.First.{pick}
@@ -17,27 +17,15 @@ use Rattle.frames.specs.Written.{frameV2, frameV1}
 use Rattle.frames.specs.declared.HeadV1.{HeadV1}
 use Rattle.frames.specs.declared.HeadV2.{HeadV2}
 use Rattle.frames.specs.declared.Frame.the-variants.{V1, V2}
-use Rattle.buffer.proofs.Laws.{within-true}
+use Rattle.buffer.proofs.Laws.{within-true, within-in, within-below, within-above}
 
 -- ---- limits
 
-inside : (low high n : ℕ) → low ≤ n → n ≤ high → within low high n ≡ true
-unfolding within
-inside low high n h k = rw (le-leb low n h, le-leb n high k)
-
-below : (low high n : ℕ) → n < low → within low high n ≡ false
-unfolding within
-below low high n h = rw (lt-leb low n h)
-
-above : (low high n : ℕ) → high < n → within low high n ≡ false
-unfolding within
-above low high n h = rw (lt-leb n high h, and-false)
-
 digit-is : (n : ℕ) → isDigit (digit n) ≡ true
-digit-is n = inside 48 57 (digit n) (omega arith) (omega arith)
+digit-is n = within-in 48 57 (digit n) (omega arith) (omega arith)
 
 digit-prints : (n : ℕ) → within 32 126 (digit n) ≡ true
-digit-prints n = inside 32 126 (digit n) (omega arith) (omega arith)
+digit-prints n = within-in 32 126 (digit n) (omega arith) (omega arith)
 
 either : (a b : Bool) (P : Type 0) → (a ≡ true → P) → (b ≡ true → P) → (a || b) ≡ true → P
 either true b P f g e = f refl
@@ -130,7 +118,7 @@ module _ (h : HeadV2) (bytes : List ℕ) (ok : SendableV2 h bytes) where
         digit-prints (h .address / 100),
         digit-prints (h .address / 10),
         digit-prints (h .address),
-        inside 32 126 (h .access) (omega arith) (omega arith),
+        within-in 32 126 (h .access) (omega arith) (omega arith),
         ok .first-in,
         ok .second-in,
         digit-prints (length bytes / 10),
@@ -141,13 +129,13 @@ module _ (h : HeadV2) (bytes : List ℕ) (ok : SendableV2 h bytes) where
   unfolding lengthFits pick closed
   fits2 =
       let few = ok .few in
-      rw (ok .access-in) (inside 10 109 (length (closed body2)) (omega (arith, length-closed body2)) (omega (arith, length-closed body2)))
+      rw (ok .access-in) (within-in 10 109 (length (closed body2)) (omega (arith, length-closed body2)) (omega (arith, length-closed body2)))
 
   no-letter : isLetter (at (closed body2) 3) ≡ false
   unfolding isLetter closed
   no-letter =
       let a = within-true 48 57 (h .access) (ok .access-in) in
-      rw (below 65 90 (h .access) (omega arith), below 97 122 (h .access) (omega arith))
+      rw (within-below 65 90 (h .access) (omega arith), within-below 97 122 (h .access) (omega arith))
 
   rest2 : dataFrom 8 (closed body2) ≡ bytes
   rest2 = ap (drop 8) (body-closed body2)
@@ -205,7 +193,7 @@ module _ (h : HeadV1) (bytes : List ℕ) (ok : SendableV1 h bytes) where
         digit-prints (h .address / 100),
         digit-prints (h .address / 10),
         digit-prints (h .address),
-        inside 32 126 (h .letter) (omega arith) (omega arith),
+        within-in 32 126 (h .letter) (omega arith) (omega arith),
       ) (ok .bytes-in)
 
   fits1 : lengthFits (closed body1) ≡ true
@@ -213,7 +201,7 @@ module _ (h : HeadV1) (bytes : List ℕ) (ok : SendableV1 h bytes) where
   fits1 =
       let few = ok .few in
       let l = letter-is (h .letter) (ok .letter-in) in
-      rw (above 48 57 (h .letter) (omega arith), ok .letter-in) (inside 6 12 (length (closed body1)) (omega (arith, length-closed body1)) (omega (arith, length-closed body1)))
+      rw (within-above 48 57 (h .letter) (omega arith), ok .letter-in) (within-in 6 12 (length (closed body1)) (omega (arith, length-closed body1)) (omega (arith, length-closed body1)))
 
   letter : isLetter (at (closed body1) 3) ≡ true
   unfolding closed

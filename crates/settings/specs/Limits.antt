@@ -23,6 +23,8 @@ pub record Limits : Type 0 where
   -- the numbers of ST
   pub transitionLow : Number
   pub transitionHigh : Number
+  -- whether the `F` form of ST exists beside the `D` form
+  pub betweenForm : Bool
   pub factoryTransition : Transition
   -- the sources that a list can name, and how many entries it can have
   pub sourceCodes : List ℕ
@@ -45,6 +47,7 @@ standard =
       filamentHigh = 3;
       transitionLow = positive 100000 9;
       transitionHigh = positive 200000 10;
+      betweenForm = true;
       factoryTransition = Between (positive 500000 9) (positive 150000 10);
       sourceCodes = knownSources;
       entries = mostEntries;

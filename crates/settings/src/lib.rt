@@ -36,13 +36,21 @@ pub enum Key {
 // A setting and its value: one case for each command, the factor in hundredths. Stream says whether lines are sent (mode 4); the
 // list of sources stands beside it.
 pub enum Setting {
+    // DA
     Address(u8),
+    // DU
     PressureIn(PressureUnit),
+    // C1
     Factor(u16),
+    // CM
     Control(u8),
+    // CC
     Cathode(u8),
+    // FC
     Filament(u8),
+    // ST
     Switch(Transition),
+    // SM
     Stream(bool),
 }
 

@@ -1,24 +1,19 @@
--- Laws of the checksum and of frames. Assumes nothing.
+-- Laws of the checksum and of what a frame is. Assumes nothing.
 use mathlib.Core.Path.{_≡_, refl, sym, ap, _∙_}
 use mathlib.Core.Bool.{Bool, true, false, not, true≢false, false≢true, and-eq-true-iff}
 use mathlib.Core.List.{List, [], _∷_, _++_}
 use Prim.Native.Nat.{ℕ, _+_, _-_, _*_, _<_, _≤_}
-use native.Mathlib.Nat.{zero-add}
 use native.Mathlib.Omega.{arith}
 use borrow.Author.Tests.{le-leb, lt-leb, leb-true, not-false}
 use lib.Dec.{leb}
-use lib.ListN.{length, getD, take, drop, length-append, length-take, drop-of-length-le}
+use lib.ListN.{length, getD, take, drop, length-take, drop-of-length-le}
 use lib.Seq.{take-all}
 use Rattle.buffer.specs.First.{pick}
 use Rattle.buffer.specs.Byte.{at, within, isDigit, every, numeralFrom, numeral}
-use Rattle.buffer.specs.Answer.{silent, Stored}
-use Rattle.buffer.proofs.Laws.{drop-step, then, front, within-true}
+use Rattle.buffer.proofs.Laws.{drop-step, within-true}
 use Rattle.buffer.proofs.Rules.{each, flag, unflag, rules}
-use Rattle.frames.specs.Checksum.{sumOf, endOf, closed}
+use Rattle.frames.specs.Checksum.{sumOf}
 use Rattle.frames.specs.Frame.{isLetter, lengthFits, misshapen, wrongSum, wrongAddress, wrongLength}
-use Rattle.frames.specs.Written.{frameV2, frameV1, frameWritten}
-use Rattle.frames.specs.declared.HeadV1.{HeadV1}
-use Rattle.frames.specs.declared.HeadV2.{HeadV2}
 
 -- ---- the checksum
 
@@ -30,36 +25,6 @@ sum-step s i h = ap sumOf (drop-step s i h)
 pub sum-end : (s : List ℕ) (i : ℕ) → length s ≤ i → sumOf (drop i s) ≡ 0
 unfolding sumOf
 sum-end s i h = ap sumOf (drop-of-length-le s h)
-
--- ---- frames
-
-pub length-closed : (head bytes : List ℕ) → length (closed (head ++ bytes)) ≡ length head + length bytes + 2
-unfolding closed endOf
-length-closed head bytes = simp length-append (omega arith)
-
--- a body stored at the front, and then its checksum and CR: the closed body is stored
-pub closes : {m m₁ m₂ b : List ℕ} (p : ℕ) → Stored m 0 b m₁ → p ≡ length b → length b ≤ length m → Stored m₁ p (endOf (take p m₁)) m₂ → Stored m 0 (closed b) m₂
-unfolding closed
-closes p f n h g = then p f (n ∙ sym (zero-add _)) (rw (front p f n h) at g)
-
--- what a frame's writer answers, by its tests
-module _ (room most address : ℕ) (bytes frame : List ℕ) where
-  pub no-room : room < length frame → frameWritten room most address bytes frame ≡ silent 1
-  unfolding frameWritten
-  no-room h = sym (search rules)
-
-  pub too-many : length frame ≤ room → most < length bytes → frameWritten room most address bytes frame ≡ silent 2
-  unfolding frameWritten
-  too-many h k = sym (search rules)
-
-  pub outside : length frame ≤ room → length bytes ≤ most → not (within 1 999 address) ≡ true → frameWritten room most address bytes frame ≡ silent 4
-  unfolding frameWritten
-  outside h k o = sym (search rules)
-
-  pub written : length frame ≤ room → length bytes ≤ most → not (within 1 999 address) ≡ false
-      → frameWritten room most address bytes frame ≡ record { number = 0; reply = frame }
-  unfolding frameWritten
-  written h k o = sym (search rules)
 
 -- ---- limits
 

@@ -1,5 +1,3 @@
--- Document 01, "Text frames" and the reply column of "Answer numbers of the text gauge".
+-- Document 01, "Text frames": the checksum, and any bytes read as a frame.
 pub mod Checksum
 pub mod Frame
-pub mod Written
-pub mod Error

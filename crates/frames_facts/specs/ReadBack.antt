@@ -13,7 +13,7 @@ use Rattle.buffer.specs.Byte.{at, within, isDigit, every, numeralFrom, numeral,
 use Rattle.buffer.proofs.Rules.{past, stop}
 use Rattle.frames.specs.Checksum.{checksumOf, endOf, closed}
 use Rattle.frames.specs.Frame.{isLetter, body, sumByte, lastByte, dataFrom, lengthFits, misshapen, wrongSum, wrongAddress, wrongLength, headV1, headV2, frameOf}
-use Rattle.frames.specs.Written.{frameV2, frameV1}
+use Rattle.frame_writer.specs.Written.{frameV2, frameV1}
 use Rattle.frames.specs.declared.HeadV1.{HeadV1}
 use Rattle.frames.specs.declared.HeadV2.{HeadV2}
 use Rattle.frames.specs.declared.Frame.the-variants.{V1, V2}

@@ -1,8 +1,8 @@
--- `frames::write_error_v2` meets its contract. Assumes nothing.
+-- `frame_writer::write_error_v2` meets its contract. Assumes nothing.
 use borrow.Author.Needs.{needs}
-use Rattle.frames.specs.Error.{errorHeadV2}
-use Rattle.frames.proofs.write_error_v2.Statement.{statement}
-use Rattle.frames.proofs.write_error_v2.Tie as tie
+use Rattle.frame_writer.specs.Error.{errorHeadV2}
+use Rattle.frame_writer.proofs.write_error_v2.Statement.{statement}
+use Rattle.frame_writer.proofs.write_error_v2.Tie as tie
 
 returns : tie.Need-returns
 unfolding errorHeadV2

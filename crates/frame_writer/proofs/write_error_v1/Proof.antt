@@ -1,11 +1,11 @@
--- `frames::write_error_v1` meets its contract: letter and data of each number. Assumes nothing.
+-- `frame_writer::write_error_v1` meets its contract: letter and data of each number. Assumes nothing.
 use mathlib.Core.Path.{_≡_}
 use borrow.Author.Needs.{needs}
 use borrow.Author.Tests.{ne-eqb}
 use Rattle.buffer.specs.First.{pick}
-use Rattle.frames.specs.Error.{errorLetterV1, errorDataV1, errorHeadV1}
-use Rattle.frames.proofs.write_error_v1.Statement.{statement}
-use Rattle.frames.proofs.write_error_v1.Tie as tie
+use Rattle.frame_writer.specs.Error.{errorLetterV1, errorDataV1, errorHeadV1}
+use Rattle.frame_writer.proofs.write_error_v1.Statement.{statement}
+use Rattle.frame_writer.proofs.write_error_v1.Tie as tie
 
 returns : tie.Need-returns
 unfolding errorLetterV1 errorDataV1 errorHeadV1 pick

@@ -1,9 +1,9 @@
--- `frames::error_bytes` meets its contract. Assumes nothing.
+-- `frame_writer::error_bytes` meets its contract. Assumes nothing.
 use mathlib.Core.Path.{sym, ap}
 use borrow.Author.Needs.{needs}
-use Rattle.frames.specs.Error.{errorBytes}
-use Rattle.frames.proofs.error_bytes.Statement.{statement}
-use Rattle.frames.proofs.error_bytes.Tie as tie
+use Rattle.frame_writer.specs.Error.{errorBytes}
+use Rattle.frame_writer.proofs.error_bytes.Statement.{statement}
+use Rattle.frame_writer.proofs.error_bytes.Tie as tie
 
 pub error-bytes-spec : {M : Type 1} → statement M
 unfolding errorBytes

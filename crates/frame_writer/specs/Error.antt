@@ -3,10 +3,10 @@ use mathlib.Core.List.{List, [], _∷_}
 use Prim.Native.Nat.{ℕ}
 use lib.Dec.{eqb}
 use Rattle.buffer.specs.First.{Row, _⇒_, first}
 use Rattle.frames.specs.declared.HeadV1.{HeadV1}
 use Rattle.frames.specs.declared.HeadV2.{HeadV2}
-use Rattle.frames.specs.declared.ErrorText.{ErrorText}
-use Rattle.frames.specs.declared.ErrorText.the-variants.{Length, Logic, NoDef, Syntax, Range, Error1}
+use Rattle.frame_writer.specs.declared.ErrorText.{ErrorText}
+use Rattle.frame_writer.specs.declared.ErrorText.the-variants.{Length, Logic, NoDef, Syntax, Range, Error1}
 
 -- the six error texts
 unfoldable pub errorBytes : ErrorText → List ℕ

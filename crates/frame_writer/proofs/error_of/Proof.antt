@@ -1,10 +1,10 @@
--- `frames::error_of` meets its contract. Assumes nothing.
+-- `frame_writer::error_of` meets its contract. Assumes nothing.
 use mathlib.Core.Path.{sym, ap}
 use Rattle.buffer.specs.First.{pick}
 use Rattle.buffer.proofs.Rules.{rules}
-use Rattle.frames.specs.Error.{errorOf}
-use Rattle.frames.proofs.error_of.Statement.{statement}
-use Rattle.frames.proofs.error_of.Tie as tie
+use Rattle.frame_writer.specs.Error.{errorOf}
+use Rattle.frame_writer.proofs.error_of.Statement.{statement}
+use Rattle.frame_writer.proofs.error_of.Tie as tie
 
 pub error-of-spec : {M : Type 1} → statement M
 unfolding errorOf pick

@@ -1,12 +1,12 @@
--- `frames::put_end` meets its contract. Assumes nothing.
+-- `frame_writer::put_end` meets its contract. Assumes nothing.
 use mathlib.Core.Path.{sym}
 use native.Mathlib.Omega.{arith}
 use borrow.Author.Needs.{needs}
 use lib.ListN.{take, length-take}
 use Rattle.buffer.proofs.Laws.{sets-out}
 use Rattle.frames.specs.Checksum.{endOf}
-use Rattle.frames.proofs.put_end.Statement.{statement}
-use Rattle.frames.proofs.put_end.Tie as tie
+use Rattle.frame_writer.proofs.put_end.Statement.{statement}
+use Rattle.frame_writer.proofs.put_end.Tie as tie
 
 returns : tie.Need-returns
 returns c =

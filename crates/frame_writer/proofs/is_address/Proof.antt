@@ -1,8 +1,8 @@
--- `frames::is_address` meets its contract. Assumes nothing.
+-- `frame_writer::is_address` meets its contract. Assumes nothing.
 use Rattle.buffer.specs.Byte.{within}
 use Rattle.buffer.proofs.Rules.{tests}
-use Rattle.frames.proofs.is_address.Statement.{statement}
-use Rattle.frames.proofs.is_address.Tie as tie
+use Rattle.frame_writer.proofs.is_address.Statement.{statement}
+use Rattle.frame_writer.proofs.is_address.Tie as tie
 
 pub is-address-spec : {M : Type 1} → statement M
 unfolding within

@@ -1,4 +1,4 @@
--- `frames::write_frame` meets its contract. Each refusal by its tests; the head, the data and the end, one after the other. Assumes nothing.
+-- `frame_writer::write_frame` meets its contract. Each refusal by its tests; the head, the data and the end, one after the other. Assumes nothing.
 use mathlib.Core.Path.{_≡_, refl, sym}
 use mathlib.Core.List.{_++_}
 use Prim.Native.Nat.{_+_}
@@ -7,9 +7,9 @@ use borrow.Author.Needs.{needs}
 use lib.ListN.{length, length-append}
 use Rattle.buffer.proofs.Rules.{unflag}
 use Rattle.buffer.proofs.Laws.{then, refuses, sends}
-use Rattle.frames.proofs.Laws.{length-closed, closes, no-room, too-many, outside, written}
-use Rattle.frames.proofs.write_frame.Statement.{statement}
-use Rattle.frames.proofs.write_frame.Tie as tie
+use Rattle.frame_writer.proofs.Laws.{length-closed, closes, no-room, too-many, outside, written}
+use Rattle.frame_writer.proofs.write_frame.Statement.{statement}
+use Rattle.frame_writer.proofs.write_frame.Tie as tie
 
 returns-4 : tie.Need-returns-4
 returns-4 c =

@@ -1,8 +1,8 @@
--- `frames::write_v1` meets its contract. Assumes nothing.
+-- `frame_writer::write_v1` meets its contract. Assumes nothing.
 use borrow.Author.Needs.{needs}
-use Rattle.frames.specs.Written.{frameV1}
-use Rattle.frames.proofs.write_v1.Statement.{statement}
-use Rattle.frames.proofs.write_v1.Tie as tie
+use Rattle.frame_writer.specs.Written.{frameV1}
+use Rattle.frame_writer.proofs.write_v1.Statement.{statement}
+use Rattle.frame_writer.proofs.write_v1.Tie as tie
 
 pub write-v1-spec : {M : Type 1} → statement M
 unfolding frameV1

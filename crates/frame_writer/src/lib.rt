@@ -1,0 +1,185 @@
+// Text frames of the protocols V1 and V2 (document 01, "Text frames" and the reply column of "Answer numbers of the text gauge"): frames and
+// error frames written into lent memory, and the end of a frameless line.
+ghost use mathlib.Core.Path.{_≡_};
+ghost use mathlib.Core.List.{_++_};
+ghost use Prim.Native.Nat.{_≤_};
+ghost use lib.ListN.{length, take};
+ghost use Rattle.buffer.specs.Byte.{within};
+ghost use Rattle.buffer.specs.Answer.{Stored, Sent};
+ghost use Rattle.frames.specs.Checksum.{endOf, closed};
+ghost use Rattle.frame_writer.specs.Written.{frameWritten, writtenV2, writtenV1};
+ghost use Rattle.frame_writer.specs.Error.{errorBytes, errorOf, errorHeadV2, errorHeadV1, errorDataV1};
+
+// Stores the checksum of all that stands before `at`, and CR: the end of a frame and of a frameless line.
+pub fn put_end(out: &mut [u8], at: usize)
+    ensures { λ r. ⌜ Stored (now (out .entry)) at (endOf (take at (now (out .entry)))) (now (out .exit)) ⌝ }
+{
+    if out.len() < at {
+        return;
+    }
+    let end = [frames::checksum(&out[..at]), 13];
+    buffer::put(out, at, &end);
+}
+
+// An address that a frame can hold: 1 to 999.
+pub fn is_address(address: u16) -> bool
+    ensures { λ r. ⌜ r ≡ within 1 999 address ⌝ }
+{
+    1 <= address && address <= 999
+}
+
+// Writes a whole frame at the front of out: its head, the data and the end. Refuses with 1 where it does not fit, with 2 where the
+// data are over `most` bytes, with 4 where the address lies outside 1 to 999; then out stays as it was.
+fn write_frame(
+    out: &mut [u8],
+    address: u16,
+    head: &[u8],
+    bytes: &[u8],
+    most: usize,
+) -> buffer::Written
+    requires { ⌜ length (now head) ≤ 8 ⌝ }
+    ensures { λ r. ⌜ Sent (now (out .entry)) (frameWritten (length (now (out .entry))) most address (now (bytes .entry)) (closed (now (head .entry) ++ now (bytes .entry)))) (now (out .exit)) r ⌝ }
+{
+    let k = head.len();
+    let n = bytes.len();
+    if out.len() < k + n + 2 {
+        return buffer::Written { number: 1, len: 0 };
+    }
+    if most < n {
+        return buffer::Written { number: 2, len: 0 };
+    }
+    if !is_address(address) {
+        return buffer::Written { number: 4, len: 0 };
+    }
+    buffer::put(out, 0, head);
+    buffer::put(out, k, bytes);
+    put_end(out, k + n);
+    buffer::Written {
+        number: 0,
+        len: k + n + 2,
+    }
+}
+
+// Writes a V2 frame with these data, at most 99 bytes.
+pub fn write_v2(out: &mut [u8], head: frames::HeadV2, bytes: &[u8]) -> buffer::Written
+    ensures { λ r. ⌜ Sent (now (out .entry)) (writtenV2 (length (now (out .entry))) head (now (bytes .entry))) (now (out .exit)) r ⌝ }
+{
+    let address = head.address;
+    let n = bytes.len();
+    let start = [
+        (address / 100 % 10) as u8 + 48,
+        (address / 10 % 10) as u8 + 48,
+        (address % 10) as u8 + 48,
+        head.access,
+        head.first,
+        head.second,
+        (n / 10 % 10) as u8 + 48,
+        (n % 10) as u8 + 48,
+    ];
+    write_frame(out, address, &start, bytes, 99)
+}
+
+// Writes a V1 frame with these data, at most 6 bytes.
+pub fn write_v1(out: &mut [u8], head: frames::HeadV1, bytes: &[u8]) -> buffer::Written
+    ensures { λ r. ⌜ Sent (now (out .entry)) (writtenV1 (length (now (out .entry))) head (now (bytes .entry))) (now (out .exit)) r ⌝ }
+{
+    let address = head.address;
+    let start = [
+        (address / 100 % 10) as u8 + 48,
+        (address / 10 % 10) as u8 + 48,
+        (address % 10) as u8 + 48,
+        head.letter,
+    ];
+    write_frame(out, address, &start, bytes, 6)
+}
+
+// ---- error frames
+
+// The six error texts of V2.
+pub enum ErrorText {
+    Length,
+    Logic,
+    NoDef,
+    Syntax,
+    Range,
+    Error1,
+}
+
+// The six bytes of an error text.
+pub fn error_bytes(e: ErrorText) -> [u8; 6]
+    ensures { λ r. ⌜ r ≡ errorBytes e ⌝ }
+{
+    match e {
+        ErrorText::Length => [b'L', b'E', b'N', b'G', b'T', b'H'],
+        ErrorText::Logic => [b'_', b'L', b'O', b'G', b'I', b'C'],
+        ErrorText::NoDef => [b'N', b'O', b'_', b'D', b'E', b'F'],
+        ErrorText::Syntax => [b'S', b'Y', b'N', b'T', b'A', b'X'],
+        ErrorText::Range => [b'_', b'R', b'A', b'N', b'G', b'E'],
+        ErrorText::Error1 => [b'E', b'R', b'R', b'O', b'R', b'1'],
+    }
+}
+
+// The error text of an answer number from 6 to 13.
+pub fn error_of(number: u8) -> ErrorText
+    ensures { λ r. ⌜ r ≡ errorOf number ⌝ }
+{
+    match number {
+        6 => ErrorText::Length,
+        7 => ErrorText::Logic,
+        8 => ErrorText::NoDef,
+        9 => ErrorText::Logic,
+        10 => ErrorText::Syntax,
+        11 => ErrorText::Range,
+        12 => ErrorText::Logic,
+        _ => ErrorText::Error1,
+    }
+}
+
+// Writes the error frame that answers a V2 request with this head.
+pub fn write_error_v2(out: &mut [u8], head: frames::HeadV2, number: u8) -> buffer::Written
+    ensures { λ r. ⌜ Sent (now (out .entry)) (writtenV2 (length (now (out .entry))) (errorHeadV2 head) (errorBytes (errorOf number))) (now (out .exit)) r ⌝ }
+{
+    let text = error_bytes(error_of(number));
+    let answer = frames::HeadV2 {
+        address: head.address,
+        access: b'7',
+        first: head.first,
+        second: head.second,
+    };
+    write_v2(out, answer, &text)
+}
+
+// Writes the error frame that answers a V1 request with this head.
+pub fn write_error_v1(out: &mut [u8], head: frames::HeadV1, number: u8) -> buffer::Written
+    ensures { λ r. ⌜ Sent (now (out .entry)) (writtenV1 (length (now (out .entry))) (errorHeadV1 number head) (errorDataV1 number)) (now (out .exit)) r ⌝ }
+{
+    let address = head.address;
+    if number == 8 {
+        let text = [b'O', b'_', b'D', b'E', b'F'];
+        return write_v1(
+            out,
+            frames::HeadV1 {
+                address,
+                letter: b'N',
+            },
+            &text,
+        );
+    }
+    if number == 11 {
+        let text = error_bytes(ErrorText::Range);
+        return write_v1(out, head, &text);
+    }
+    if number == 13 {
+        let text = [b'1'];
+        return write_v1(
+            out,
+            frames::HeadV1 {
+                address,
+                letter: b'M',
+            },
+            &text,
+        );
+    }
+    let text = error_bytes(ErrorText::Logic);
+    write_v1(out, head, &text)
+}

@@ -32,7 +32,7 @@ factoryOf ST = Switch (factory .transition)
 factoryOf SM = Stream (factory .streaming)
 
 -- the settings with this unit and this transition
-unfoldable pub bothOf : Settings → PressureUnit → Transition → Settings
+abbrev pub bothOf : Settings → PressureUnit → Transition → Settings
 bothOf s u t = record { address = s .address; unit = u; factor = s .factor; control = s .control; cathode = s .cathode; filament = s .filament; transition = t; streaming = s .streaming; sources = s .sources }
 
 -- the settings with one of them set, and no other changed; the list counts for SM only

@@ -1,0 +1,42 @@
+-- Document 01, the column "Data": values within the limits. Assumes nothing.
+use mathlib.Core.Path.{_≡_}
+use mathlib.Core.Bool.{true, false}
+use Prim.Native.Nat.{_≤_}
+use Rattle.decimal.specs.Number.{belowOf}
+use Rattle.decimal.specs.declared.Number.{Number}
+use Rattle.decimal_facts.specs.Canonical.{Canonical}
+use Rattle.sources.specs.Source.{listOf}
+use Rattle.settings.specs.Limits.{standard}
+use Rattle.settings.specs.declared.Transition.the-variants.{Direct, Between}
+use Rattle.settings.specs.declared.Setting.{Setting}
+use Rattle.settings.specs.declared.Setting.the-variants.{Address, PressureIn, Factor, Control, Cathode, Filament, Switch, Stream}
+use Rattle.settings.specs.declared.Settings.{Settings}
+use Rattle.forms_facts.specs.Codes.{Short}
+
+-- a number of ST, "each 1 to 20", and one of the decimal form
+pub record InLimits (n : Number) : Type 0 where
+  pub canonical : Canonical n
+  pub low : belowOf n (standard .transitionLow) ≡ false
+  pub high : belowOf (standard .transitionHigh) n ≡ false
+
+-- a setting within the limits of its column "Data"; "ST's F must lie strictly below T"
+abbrev pub Sound : Setting → Type 0
+Sound (Address v) = (standard .addressLow ≤ v) × (v ≤ standard .addressHigh)
+Sound (PressureIn u) = Unit {0}
+Sound (Factor h) = (standard .factorLow ≤ h) × (h ≤ standard .factorHigh)
+Sound (Control d) = d ≤ standard .controlHigh
+Sound (Cathode d) = d ≤ standard .cathodeHigh
+Sound (Filament d) = d ≤ standard .filamentHigh
+Sound (Switch (Direct n)) = InLimits n
+Sound (Switch (Between a b)) = InLimits a × InLimits b × (belowOf a b ≡ true)
+Sound (Stream on) = Unit {0}
+
+-- settings within the limits, the list of sources too
+pub record SoundSettings (s : Settings) : Type 0 where
+  pub address : Sound (Address (s .address))
+  pub factor : Sound (Factor (s .factor))
+  pub control : Sound (Control (s .control))
+  pub cathode : Sound (Cathode (s .cathode))
+  pub filament : Sound (Filament (s .filament))
+  pub transition : Sound (Switch (s .transition))
+  pub list : Short (listOf (s .sources))

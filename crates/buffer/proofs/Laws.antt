@@ -1,7 +1,7 @@
 -- Laws of stores in lent memory, of answers and of short texts. Assumes nothing.
 use mathlib.Core.Path.{_≡_, refl, sym, ap, _∙_}
 use mathlib.Core.Bool.{Bool, true, false, cond, _&&_, and-false, and-eq-true-iff}
-use mathlib.Core.List.{List, [], _∷_, _++_, append-assoc, append-nil}
+use mathlib.Core.List.{List, [], _∷_, _++_, append-nil}
 use Prim.Native.Nat.{ℕ, zero, suc, _+_, _-_, _*_, _^_, _<_, _≤_}
 use native.Mathlib.Nat.{add-zero, zero-add, add-suc, suc-add, pow-suc, pow-le-pow-right, sub-zero, zero-sub, suc-sub-suc}
 use native.Mathlib.Numerals.{add-one}
@@ -9,12 +9,11 @@ use native.Mathlib.Omega.{arith}
 use borrow.Author.Tests.{le-leb, lt-leb, leb-true}
 use lib.Dec.{eqb, leb}
 use lib.ListN.{length, getD, set, drop, take, length-take, length-drop, drop-of-length-le}
-use lib.Seq.{sets, sets-eq, drop-cons, take-at, take-all, take-append-le, take-append-add, set-out, take-nil}
+use lib.Seq.{sets, sets-eq, drop-cons, take-at, take-all, set-out, take-nil}
 use Rattle.buffer.specs.Answer.{Answer, silent, over, Stored, Sent}
 use Rattle.buffer.specs.Byte.{within, sameText, untilOf, numeralFrom}
 use Rattle.buffer.specs.Text.{textOf, cut}
 use Rattle.buffer.specs.declared.Text.{Text}
-use Rattle.buffer.specs.declared.Written.{Written}
 
 -- ---- stores
 

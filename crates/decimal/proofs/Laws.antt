@@ -1,17 +1,15 @@
 -- Laws of the digits at the front of a text, and of the numbers that digits spell. Assumes nothing.
 use mathlib.Core.Path.{_≡_, refl, sym, ap, _∙_}
-use mathlib.Core.Bool.{Bool, true, false, cond, _&&_, true≢false}
-use mathlib.Core.List.{List, [], _∷_, _++_}
+use mathlib.Core.Bool.{Bool, true, false, cond, true≢false}
+use mathlib.Core.List.{List, [], _∷_}
 use Prim.Native.Nat.{ℕ, zero, suc, _+_, _-_, _*_, _^_, _<_, _≤_}
 use native.Mathlib.Nat.{pow-suc, mul-le-mul-right, mul-assoc, mul-comm}
-use native.Mathlib.Numerals.{add-one}
 use native.Mathlib.Omega.{arith}
-use borrow.Author.Tests.{leb-true, eqb-false}
-use lib.Dec.{leb, eqb, eqb·zero-suc}
+use lib.Dec.{eqb·zero-suc}
 use lib.ListN.{length, getD, take, drop, length-take, drop-of-length-le}
 use lib.Seq.{take-all}
-use Rattle.buffer.specs.Byte.{within, isDigit, every, numeralFrom, numeral}
-use Rattle.buffer.proofs.Laws.{drop-step, ten-step, ten-max, within-true}
+use Rattle.buffer.specs.Byte.{isDigit, numeralFrom, numeral}
+use Rattle.buffer.proofs.Laws.{drop-step, within-true}
 use Rattle.decimal.specs.Form.{leading, startsWith}
 
 -- ---- the digits at the front

@@ -1,17 +1,16 @@
 -- Laws of powers of ten, sizes and comparison. Assumes nothing.
 use mathlib.Core.Path.{_≡_, refl, sym, ap, _∙_}
-use mathlib.Core.Bool.{Bool, true, false, cond, not}
-use mathlib.Core.List.{[], _∷_}
-use mathlib.Core.Logic.{_⊎_, inl, inr}
+use mathlib.Core.Bool.{Bool, true, false, not}
+use mathlib.Core.Logic.{inl, inr}
 use Prim.Native.Nat.{ℕ, zero, suc, _+_, _-_, _*_, _/_, _%_, _^_, _<_, _≤_}
 use lib.Pow.{pow-add}
-use native.Mathlib.Nat.{one-le-pow, mul-assoc, mul-comm, mul-le-mul, mul-le-mul-right, mul-lt-mul-of-pos-right, mul-mod-left, mul-div-left, mul-div-mul-right, dvd-of-mod-eq-zero, mod-eq-zero-of-dvd, dvd-of-mul-dvd-mul-right, mul-dvd-mul-right, zero-mul, div-lt-iff-lt-mul, zero-add, zero-mod, mul-pos, suc-mul}
+use native.Mathlib.Nat.{one-le-pow, mul-assoc, mul-le-mul, mul-le-mul-right, mul-lt-mul-of-pos-right, mul-mod-left, mul-div-left, mul-div-mul-right, dvd-of-mod-eq-zero, mod-eq-zero-of-dvd, dvd-of-mul-dvd-mul-right, mul-dvd-mul-right, zero-mul, mul-pos, suc-mul}
 use native.Mathlib.Omega.{arith}
-use borrow.Author.Tests.{lt-ltb, le-ltb, le-leb, lt-leb, eq-eqb, ne-eqb, ltb-true, ltb-false, eqb-true, eqb-false}
-use lib.Dec.{ltb, leb, eqb, eqb·suc-zero}
-use Rattle.buffer.specs.First.{pick, first, Row, _⇒_}
+use borrow.Author.Tests.{lt-ltb, le-ltb, le-leb, eq-eqb, ne-eqb, ltb-true, ltb-false, eqb-true, eqb-false}
+use lib.Dec.{ltb, eqb, eqb·suc-zero}
+use Rattle.buffer.specs.First.{pick}
 use Rattle.buffer.proofs.Laws.{ten-max}
-use Rattle.decimal.specs.Exact.{units, sizeOf}
+use Rattle.decimal.specs.Exact.{sizeOf}
 use Rattle.decimal.specs.Number.{Scaled, countedOf}
 use Rattle.decimal.specs.declared.Hundredths.{Hundredths}
 

@@ -4,7 +4,7 @@ use mathlib.Core.List.{List, [], _∷_}
 use Prim.Native.Nat.{ℕ, _+_, _*_, _^_}
 use lib.Dec.{ltb, leb, eqb}
 use lib.ListN.{length, take, drop}
-use Rattle.buffer.specs.First.{Row, _⇒_, first}
+use Rattle.buffer.specs.First.{_⇒_, first}
 use Rattle.buffer.specs.Byte.{at, isDigit, numeral}
 use Rattle.decimal.specs.Exact.{normalOf}
 use Rattle.decimal.specs.declared.Exact.{Exact}
@@ -77,6 +77,12 @@ scanOf s = first (startsWith 45 s ⇒ unsignedOf (drop 1 s) true ∷ []) (unsign
 unfoldable pub answerOf : Scan → Parsed
 answerOf NoForm = Syntax
 answerOf (Of x) = normalOf x
+
+-- document 01's number for each answer: 0 where it is a number
+abbrev pub parsedNumber : Parsed → ℕ
+parsedNumber (Value n) = 0
+parsedNumber Syntax = 10
+parsedNumber Range = 11
 
 unfoldable pub numberOf : List ℕ → Parsed
 numberOf s = answerOf (scanOf s)

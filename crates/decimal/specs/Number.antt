@@ -1,11 +1,11 @@
 -- Numbers by value. Assumes nothing.
-use mathlib.Core.Bool.{Bool, true, false, cond, not}
+use mathlib.Core.Bool.{Bool, cond, not}
 use mathlib.Core.List.{[], _∷_}
 use mathlib.Core.Path.{_≡_}
 use mathlib.Core.Logic.{_⊎_}
 use Prim.Native.Nat.{ℕ, _+_, _*_, _/_, _%_, _^_, _≤_}
 use lib.Dec.{ltb, leb, eqb}
-use Rattle.buffer.specs.First.{Row, _⇒_, first}
+use Rattle.buffer.specs.First.{_⇒_, first}
 use Rattle.decimal.specs.Exact.{units}
 use Rattle.decimal.specs.declared.Number.{Number}
 use Rattle.decimal.specs.declared.Hundredths.{Hundredths}

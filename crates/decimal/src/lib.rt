@@ -2,7 +2,7 @@
 ghost use mathlib.Core.Path.{_≡_};
 ghost use mathlib.Core.Bool.{_||_};
 ghost use Prim.Native.Nat.{_+_, _*_, _^_, _≤_, _<_};
-ghost use lib.ListN.{length, take, drop};
+ghost use lib.ListN.{take};
 ghost use lib.Dec.{ltb};
 ghost use Rattle.buffer.specs.Byte.{numeral};
 ghost use Rattle.decimal.specs.Exact.{units, sizeOf, normalOf};

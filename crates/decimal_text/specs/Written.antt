@@ -1,10 +1,10 @@
 -- Document 01, "Decimal numbers": the texts that are sent. Assumes nothing.
-use mathlib.Core.Bool.{Bool, true, false, cond, _&&_}
+use mathlib.Core.Bool.{Bool, cond, _&&_}
 use mathlib.Core.List.{List, [], _∷_, _++_}
-use Prim.Native.Nat.{ℕ, _+_, _-_, _/_, _%_}
+use Prim.Native.Nat.{ℕ, _-_, _/_}
 use lib.Dec.{ltb, eqb}
 use lib.ListN.{length}
-use Rattle.buffer.specs.First.{Row, _⇒_, first}
+use Rattle.buffer.specs.First.{_⇒_, first}
 use Rattle.buffer.specs.Byte.{digit, digits2, digits3}
 use Rattle.decimal.specs.declared.Number.{Number}
 

@@ -1,12 +1,12 @@
 -- The data of each setting: its form, else 10 SYNTAX; its numbers, else 11 RANGE; and F below T, else 12 LOGIC. Assumes nothing.
-use mathlib.Core.Bool.{Bool, true, false, not, _&&_, _||_}
+use mathlib.Core.Bool.{Bool, not, _&&_, _||_}
 use mathlib.Core.List.{List, [], _∷_}
 use Prim.Native.Nat.{ℕ, _+_, _-_, min}
 use lib.Dec.{ltb, leb, eqb}
 use lib.ListN.{length, take, drop}
-use Rattle.buffer.specs.First.{Row, _⇒_, first}
+use Rattle.buffer.specs.First.{_⇒_, first}
 use Rattle.buffer.specs.Byte.{at, within, isDigit, every, sameText, untilOf, numeral}
-use Rattle.decimal.specs.Form.{leading, startsWith, numberOf}
+use Rattle.decimal.specs.Form.{leading, startsWith, numberOf, parsedNumber}
 use Rattle.decimal.specs.Number.{belowOf, hundredthsOf}
 use Rattle.decimal.specs.declared.Parsed.{Parsed}
 use Rattle.decimal.specs.declared.Parsed.the-variants.{Value, Syntax, Range}
@@ -15,12 +15,10 @@ use Rattle.decimal.specs.declared.Hundredths.the-variants.{Whole, Other}
 use Rattle.sources.specs.Entries.{entriesNumber}
 use Rattle.settings.specs.Limits.{standard}
 use Rattle.settings.specs.Sent.{unitText}
-use Rattle.settings.specs.declared.PressureUnit.{PressureUnit}
 use Rattle.settings.specs.declared.PressureUnit.the-variants.{Mbar, Torr, HPa}
-use Rattle.settings.specs.declared.Transition.{Transition}
 use Rattle.settings.specs.declared.Transition.the-variants.{Direct, Between}
 use Rattle.settings.specs.declared.Setting.{Setting}
-use Rattle.settings.specs.declared.Setting.the-variants.{Address, PressureIn, Factor, Control, Cathode, Filament, Switch, Stream}
+use Rattle.settings.specs.declared.Setting.the-variants.{Address, PressureIn, Factor, Switch, Stream}
 use Rattle.forms.specs.declared.Digit.{Digit}
 use Rattle.forms.specs.declared.Digit.the-variants.{Is, Isnt}
 use Rattle.forms.specs.declared.Limited.{Limited}
@@ -54,8 +52,8 @@ factorIn (Whole h) = first (not (within (standard .factorLow) (standard .factorH
 factorIn Other = Refused 11
 
 unfoldable pub factorOf : Parsed → Verdict
-factorOf Syntax = Refused 10
-factorOf Range = Refused 11
+factorOf Syntax = Refused (parsedNumber Syntax)
+factorOf Range = Refused (parsedNumber Range)
 factorOf (Value n) = first (n .negative ⇒ Refused 11 ∷ []) (factorIn (hundredthsOf n))
 
 -- "One-digit settings: any other digit is RANGE, anything else SYNTAX": the largest digit is `most`
@@ -75,8 +73,8 @@ digitOf setting (Isnt k) = Refused k
 
 -- a number of ST: "each 1 to 20"
 unfoldable pub limitedOf : Parsed → Limited
-limitedOf Syntax = Bad 10
-limitedOf Range = Bad 11
+limitedOf Syntax = Bad (parsedNumber Syntax)
+limitedOf Range = Bad (parsedNumber Range)
 limitedOf (Value n) =
     first
     (belowOf n (standard .transitionLow) ⇒ Bad 11

@@ -26,6 +26,11 @@ verdictOf FC s = digitOf Filament (digitData (standard .filamentHigh) s)
 verdictOf ST s = transitionData s
 verdictOf SM s = streamData s
 
+-- document 01's number for each verdict: 0 where the data are accepted
+abbrev pub verdictNumber : Verdict → ℕ
+verdictNumber (Set x) = 0
+verdictNumber (Refused k) = k
+
 -- what stands beside an accepted setting
 unfoldable pub ifSet : Verdict → List ℕ → List ℕ
 ifSet (Set x) list = list

@@ -7,7 +7,7 @@ ghost use Rattle.decimal.specs.Form.{numberOf};
 ghost use Rattle.sources.specs.Source.{listOf};
 ghost use Rattle.settings.specs.Limits.{standard};
 ghost use Rattle.settings.specs.declared.Setting.{Setting};
-ghost use Rattle.forms.specs.Forms.{addressData, unitData, factorIn, factorOf, digitData, digitOf, limitedOf, directOf, betweenOf, transitionData, idleList, knownMode, streamOf, streamData};
+ghost use Rattle.forms.specs.Forms.{addressData, unitData, factorIn, factorOf, digitData, digitOf, limitedOf, directOf, betweenOf, transitionData, idleList, knownMode, streamOf};
 ghost use Rattle.forms.specs.Judged.{Judges, JudgesStream};
 
 // What a write's data are: a setting with its value, or the refusal's number.

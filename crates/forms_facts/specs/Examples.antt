@@ -19,15 +19,10 @@ use Rattle.settings.specs.Sent.{unitText, transitionText, streamText, readText}
 use Rattle.settings.specs.declared.Key.{Key}
 use Rattle.settings.specs.declared.Key.the-variants.{DA, DU, C1, CM, CC, FC, ST, SM}
 use Rattle.forms.specs.Forms.{addressData, unitData, factorIn, factorOf, digitData, digitOf, limitedOf, directOf, betweenOf, transitionData, idleList, knownMode, streamOf, streamData}
-use Rattle.forms.specs.Judged.{verdictOf, ifSet, listIn}
+use Rattle.forms.specs.Judged.{verdictOf, verdictNumber, ifSet, listIn}
 use Rattle.forms.specs.declared.Verdict.{Verdict}
 use Rattle.forms.specs.declared.Verdict.the-variants.{Set, Refused}
 use Rattle.forms_facts.specs.Quoted.{bytes}
-
--- the answer's number: 0 where the data are accepted
-abbrev pub numberFor : Verdict → ℕ
-numberFor (Set x) = 0
-numberFor (Refused k) = k
 
 -- a write's data, and the number that the paper gives it
 pub record Case : Type 0 where
@@ -126,7 +121,7 @@ cases =
     ∷ []
 
 abbrev pub right : Case → Bool
-right c = eqb (numberFor (verdictOf (c .key) (c .text))) (c .number)
+right c = eqb (verdictNumber (verdictOf (c .key) (c .text))) (c .number)
 
 -- each case has the paper's answer
 pub all-right : every right cases ≡ true

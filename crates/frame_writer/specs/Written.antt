@@ -1,10 +1,10 @@
 -- Document 01, "Text frames": the bytes of a frame, and the answer of a frame's writer. Assumes nothing.
-use mathlib.Core.Bool.{Bool, not}
+use mathlib.Core.Bool.{not}
 use mathlib.Core.List.{List, [], _∷_, _++_}
-use Prim.Native.Nat.{ℕ, _+_}
-use lib.Dec.{ltb, leb}
+use Prim.Native.Nat.{ℕ}
+use lib.Dec.{ltb}
 use lib.ListN.{length}
-use Rattle.buffer.specs.First.{Row, _⇒_, first}
+use Rattle.buffer.specs.First.{_⇒_, first}
 use Rattle.buffer.specs.Byte.{within, digits2, digits3}
 use Rattle.buffer.specs.Answer.{Answer, silent}
 use Rattle.frames.specs.Checksum.{closed}

@@ -4,7 +4,7 @@ use mathlib.Core.List.{List, [], _∷_}
 use Prim.Native.Nat.{ℕ, _-_}
 use lib.Dec.{eqb}
 use lib.ListN.{length, take, drop}
-use Rattle.buffer.specs.First.{Row, _⇒_, first}
+use Rattle.buffer.specs.First.{_⇒_, first}
 use Rattle.buffer.specs.Byte.{at, within, isDigit, every, numeral}
 use Rattle.frames.specs.Checksum.{checksumOf}
 use Rattle.frames.specs.declared.HeadV1.{HeadV1}
@@ -94,3 +94,10 @@ frameOf s =
     ∷ wrongLength s ⇒ Length (headV2 s)
     ∷ [])
     (V2 (headV2 s))
+
+-- document 01's number for each answer: 0 where the bytes are a frame
+unfoldable pub frameNumber : Frame → ℕ
+frameNumber (Silent k) = k
+frameNumber (V1 h) = 0
+frameNumber (Length h) = 6
+frameNumber (V2 h) = 0

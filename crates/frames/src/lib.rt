@@ -2,8 +2,7 @@
 // frame.
 ghost use mathlib.Core.Path.{_≡_};
 ghost use Prim.Native.Nat.{_+_, _≤_};
-ghost use lib.ListN.{length, take};
-ghost use Rattle.buffer.specs.Byte.{within, isDigit, every, numeral};
+ghost use lib.ListN.{length};
 ghost use Rattle.frames.specs.Checksum.{checksumOf};
 ghost use Rattle.frames.specs.Frame.{isLetter, dataFrom, lengthFits, misshapen, wrongSum, wrongAddress, wrongLength, frameOf};
 

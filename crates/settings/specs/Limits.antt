@@ -4,11 +4,11 @@ use mathlib.Core.Bool.{Bool, true, false}
 use mathlib.Core.List.{List, [], _∷_}
 use Prim.Native.Nat.{ℕ, _+_, _*_, max}
 use lib.Dec.{eqb, leb}
-use Rattle.buffer.specs.First.{Row, _⇒_, first, pick}
+use Rattle.buffer.specs.First.{_⇒_, first, pick}
 use Rattle.decimal.specs.declared.Number.{Number}
 use Rattle.sources.specs.Source.{knownSources, mostEntries}
 use Rattle.settings.specs.declared.Transition.{Transition}
-use Rattle.settings.specs.declared.Transition.the-variants.{Direct, Between}
+use Rattle.settings.specs.declared.Transition.the-variants.{Between}
 
 pub record Limits : Type 0 where
   pub addressLow : ℕ

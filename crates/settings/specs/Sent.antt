@@ -1,5 +1,5 @@
 -- The texts that V2 reads of settings send. Assumes nothing.
-use mathlib.Core.Bool.{Bool, true, false, cond}
+use mathlib.Core.Bool.{Bool, false, cond}
 use mathlib.Core.List.{List, [], _∷_, _++_}
 use Prim.Native.Nat.{ℕ}
 use Rattle.buffer.specs.Byte.{digit, digits3}

@@ -1,7 +1,6 @@
 -- The settings: factory values, and what a write or a restore changes. Assumes nothing.
-use mathlib.Core.Bool.{Bool, true, false}
+use mathlib.Core.Bool.{false}
 use mathlib.Core.List.{[], _∷_}
-use Prim.Native.Nat.{ℕ}
 use Rattle.sources.specs.declared.Sources.{Sources}
 use Rattle.settings.specs.Limits.{standard}
 use Rattle.settings.specs.declared.PressureUnit.{PressureUnit}

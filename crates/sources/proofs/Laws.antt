@@ -1,18 +1,17 @@
 -- Laws of sources, and of texts cut at each `D`. Assumes nothing.
-use mathlib.Core.Path.{_≡_, refl, sym, ap, _∙_}
-use mathlib.Core.Bool.{Bool, true, false, cond, not, _&&_, _||_, true≢false}
-use mathlib.Core.List.{List, [], _∷_, _++_, append-assoc}
-use Prim.Native.Nat.{ℕ, zero, suc, _+_, _*_, _<_, _≤_}
+use mathlib.Core.Path.{_≡_, refl}
+use mathlib.Core.Bool.{Bool, true, false, cond, _&&_, _||_}
+use mathlib.Core.List.{List, [], _∷_}
+use Prim.Native.Nat.{ℕ, zero, suc, _+_, _*_, _≤_}
 use native.Mathlib.Numerals.{add-one}
 use native.Mathlib.Omega.{arith}
-use borrow.Author.Tests.{le-leb, lt-leb, eq-eqb, ne-eqb, leb-true}
+use borrow.Author.Tests.{lt-leb, ne-eqb}
 use lib.Dec.{eqb, leb}
-use lib.ListN.{length, getD, take, length-append, length-take, drop, drop-of-length-le}
-use lib.Seq.{take-nil}
+use lib.ListN.{length, getD, take, length-append, length-take, drop}
 use Rattle.buffer.specs.Byte.{within, isDigit, every, untilOf, digit}
 use Rattle.buffer.specs.First.{pick}
 use Rattle.buffer.proofs.Rules.{each}
-use Rattle.buffer.proofs.Laws.{drop-step, within-true}
+use Rattle.buffer.proofs.Laws.{within-true}
 use Rattle.sources.specs.Source.{isSource, sourceText, listText, listOf}
 use Rattle.sources.specs.declared.Sources.{Sources}
 use Rattle.sources.specs.Entries.{onto, parts, sourceTexts}

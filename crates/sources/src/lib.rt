@@ -1,8 +1,8 @@
 // The sources of the stream line and their list (document 01, "Settings and readings, V2").
 ghost use mathlib.Core.Path.{_≡_};
 ghost use mathlib.Core.List.{[], _∷_, _++_};
-ghost use Prim.Native.Nat.{_+_, _^_, _<_, _≤_};
-ghost use lib.ListN.{length, take, drop};
+ghost use Prim.Native.Nat.{_+_, _^_, _<_};
+ghost use lib.ListN.{length, take};
 ghost use Rattle.buffer.specs.Text.{textOf, cut};
 ghost use Rattle.sources.specs.Source.{knownSources, sourceOf, sourceText, listOf, listText};
 ghost use Rattle.sources.specs.Entries.{opens, Taken, Ran, Lists};

@@ -1,8 +1,7 @@
 -- `buffer::put_text` meets its contract. Assumes nothing.
-use mathlib.Core.Path.{ap}
 use native.Mathlib.Omega.{arith}
 use borrow.Author.Needs.{needs}
-use lib.ListN.{length, length-take}
+use lib.ListN.{length-take}
 use Rattle.buffer.proofs.Laws.{shown, shown-le}
 use Rattle.buffer.proofs.put_text.Statement.{statement}
 use Rattle.buffer.proofs.put_text.Tie as tie

@@ -1,13 +1,10 @@
 -- `decimal::exponent` meets its contract. Assumes nothing.
-use mathlib.Core.Path.{_≡_, refl, sym, ap, _∙_}
-use native.Mathlib.Omega.{arith}
+use mathlib.Core.Path.{sym, _∙_}
 use borrow.Author.Needs.{needs}
 use Rattle.buffer.proofs.Rules.{rules}
 use borrow.Author.Tests.{ne-eqb, not-true, not-false}
-use mathlib.Core.Bool.{not}
 use Rattle.buffer.specs.First.{pick}
 use Rattle.decimal.specs.Form.{exponentOf}
-use Rattle.decimal.proofs.Laws.{starts-some}
 use Rattle.decimal.proofs.exponent.Statement.{statement}
 use Rattle.decimal.proofs.exponent.Tie as tie
 

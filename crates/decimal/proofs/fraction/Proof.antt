@@ -1,9 +1,8 @@
 -- `decimal::fraction` meets its contract. Assumes nothing.
-use mathlib.Core.Path.{_≡_, refl, sym, ap, _∙_}
 use native.Mathlib.Omega.{arith}
 use borrow.Author.Needs.{needs}
 use Rattle.buffer.proofs.Rules.{rules}
-use Prim.Native.Nat.{ℕ, _+_, _*_, _^_, _<_}
+use Prim.Native.Nat.{_+_, _*_, _<_}
 use borrow.Author.Tests.{le-ltb, lt-leb}
 use Rattle.buffer.specs.First.{pick}
 use Rattle.decimal.specs.Form.{fractionOf}

@@ -1,15 +1,12 @@
 -- `decimal::in_hundredths` meets its contract. Assumes nothing.
-use mathlib.Core.Path.{_≡_, refl, sym, ap, _∙_}
+use mathlib.Core.Path.{_∙_}
 use borrow.Author.Needs.{needs}
 use native.Mathlib.Omega.{arith}
-use mathlib.Core.Bool.{not}
-use lib.Dec.{eqb}
 use borrow.Author.Tests.{eq-eqb, ne-eqb}
 use Rattle.buffer.specs.First.{pick}
-use Prim.Native.Nat.{ℕ, _-_, _*_, _/_, _%_, _^_, _≤_}
-use borrow.Author.Tests.{not-true, not-false}
+use Prim.Native.Nat.{_-_, _≤_}
 use Rattle.decimal.specs.Exact.{units}
-use Rattle.decimal.specs.Number.{hundredthsOf, countedOf}
+use Rattle.decimal.specs.Number.{hundredthsOf}
 use Rattle.decimal.proofs.Sizes.{counted-scaled, whole-above, count-above, whole-below, count-below, ten-pos}
 use Rattle.decimal.proofs.in_hundredths.Statement.{statement}
 use Rattle.decimal.proofs.in_hundredths.Tie as tie

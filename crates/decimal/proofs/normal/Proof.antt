@@ -1,12 +1,10 @@
 -- `decimal::normal` meets its contract. Assumes nothing.
-use mathlib.Core.Path.{_≡_, refl, sym, ap, _∙_}
 use borrow.Author.Needs.{needs}
 use native.Mathlib.Omega.{arith}
 use Rattle.buffer.proofs.Rules.{rules}
-use Prim.Native.Nat.{ℕ, _*_, _/_, _^_, _<_, _≤_}
+use Prim.Native.Nat.{_*_, _/_, _^_, _<_}
 use native.Mathlib.Nat.{div-lt-iff-lt-mul, mul-lt-mul-of-pos-right, mul-comm}
-use Rattle.buffer.specs.First.{pick}
-use Rattle.decimal.specs.Exact.{normalOf, sizeOf}
+use Rattle.decimal.specs.Exact.{normalOf}
 use Rattle.decimal.proofs.Sizes.{size-high, size-max, ten-pos}
 use Rattle.decimal.proofs.normal.Statement.{statement}
 use Rattle.decimal.proofs.normal.Tie as tie

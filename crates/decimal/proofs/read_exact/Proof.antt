@@ -1,9 +1,8 @@
 -- `decimal::read_exact` meets its contract. Assumes nothing.
-use mathlib.Core.Path.{_≡_, refl, sym, ap, _∙_}
+use mathlib.Core.Path.{sym, _∙_}
 use borrow.Author.Needs.{needs}
 use Rattle.buffer.specs.First.{pick}
 use Rattle.decimal.specs.Form.{scanOf}
-use Rattle.decimal.proofs.Laws.{starts-some}
 use Rattle.decimal.proofs.read_exact.Statement.{statement}
 use Rattle.decimal.proofs.read_exact.Tie as tie
 

@@ -1,5 +1,5 @@
 -- `decimal::read_number` meets its contract. Assumes nothing.
-use mathlib.Core.Path.{_≡_, refl, sym, ap, _∙_}
+use mathlib.Core.Path.{sym, ap, _∙_}
 use borrow.Author.Needs.{needs}
 use Rattle.decimal.specs.Form.{numberOf, answerOf}
 use Rattle.decimal.proofs.read_number.Statement.{statement}

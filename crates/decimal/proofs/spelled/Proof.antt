@@ -1,8 +1,7 @@
 -- `decimal::spelled` meets its contract. Assumes nothing.
-use mathlib.Core.Path.{_≡_, refl, sym, ap, _∙_}
+use mathlib.Core.Path.{ap, _∙_}
 use native.Mathlib.Omega.{arith}
 use borrow.Author.Needs.{needs}
-use Prim.Native.Nat.{ℕ}
 use lib.ListN.{length-take}
 use Rattle.buffer.specs.Byte.{numeral}
 use Rattle.decimal.proofs.Laws.{six, numeral-low, leading-le}

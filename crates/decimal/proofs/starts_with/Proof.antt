@@ -2,11 +2,8 @@
 use Rattle.buffer.proofs.Rules.{rules}
 use borrow.Author.Needs.{needs}
 use Rattle.decimal.specs.Form.{startsWith}
-use mathlib.Core.Path.{_≡_, refl, sym, ap, _∙_}
 use lib.ListN.{List·getD-eq-default}
 use native.Mathlib.Omega.{arith}
-use lib.Dec.{eqb}
-use Prim.Native.Nat.{ℕ}
 use Rattle.decimal.proofs.starts_with.Statement.{statement}
 use Rattle.decimal.proofs.starts_with.Tie as tie
 

@@ -1,12 +1,10 @@
 -- `decimal::unsigned` meets its contract. Assumes nothing.
-use mathlib.Core.Path.{_≡_, refl, sym, ap, _∙_}
-use native.Mathlib.Omega.{arith}
+use mathlib.Core.Path.{sym, _∙_}
 use borrow.Author.Needs.{needs}
 use Rattle.buffer.proofs.Rules.{rules}
 use borrow.Author.Tests.{le-ltb, lt-leb}
 use Rattle.buffer.specs.First.{pick}
 use Rattle.decimal.specs.Form.{unsignedOf}
-use Rattle.decimal.proofs.Laws.{leading-le, starts-some}
 use Rattle.decimal.proofs.unsigned.Statement.{statement}
 use Rattle.decimal.proofs.unsigned.Tie as tie
 

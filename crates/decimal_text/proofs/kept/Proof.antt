@@ -1,5 +1,5 @@
 -- `decimal_text::kept` meets its contract. Each return says which digits are zeros. Assumes nothing.
-use mathlib.Core.Path.{_≡_, refl, sym, ap, _∙_}
+use mathlib.Core.Path.{sym}
 use Rattle.decimal_text.proofs.Laws.{kept0, kept1, kept2, kept3, kept4, kept5}
 use Rattle.decimal_text.proofs.kept.Statement.{statement}
 use Rattle.decimal_text.proofs.kept.Tie as tie

@@ -1,9 +1,8 @@
 -- `decimal_text::two_decimals` meets its contract. Assumes nothing.
-use mathlib.Core.Path.{_≡_, refl, sym, ap, _∙_}
+use mathlib.Core.Path.{_≡_, _∙_}
 use borrow.Author.Needs.{needs}
 use native.Mathlib.Omega.{arith}
 use mathlib.Core.List.{append-assoc}
-use lib.ListN.{length-append}
 use Rattle.buffer.proofs.Laws.{cut-cut, cut-fits}
 use Rattle.buffer.specs.Text.{textOf, cut}
 use Rattle.decimal_text.proofs.Laws.{two-le}

@@ -1,5 +1,4 @@
 -- `decimal_text::with_exponent` meets its contract. Assumes nothing.
-use mathlib.Core.Path.{_≡_, refl, sym, ap, _∙_}
 use borrow.Author.Needs.{needs}
 use mathlib.Core.List.{append-assoc}
 use borrow.Author.Tests.{lt-ltb, le-ltb}

@@ -1,13 +1,10 @@
 -- `decimal_text::with_fraction` meets its contract. Assumes nothing.
-use mathlib.Core.Path.{_≡_, refl, sym, ap, _∙_}
 use borrow.Author.Needs.{needs}
 use native.Mathlib.Omega.{arith}
-use mathlib.Core.List.{List, [], _∷_, append-assoc}
-use Prim.Native.Nat.{ℕ, _/_, _≤_, _<_}
-use lib.ListN.{length, take, length-take}
-use Rattle.buffer.specs.Byte.{digits3}
+use mathlib.Core.List.{append-assoc}
+use lib.ListN.{length-take}
 use Rattle.buffer.proofs.Laws.{cut-cut}
-use Rattle.decimal_text.specs.Written.{pointed, trimmed, digits5}
+use Rattle.decimal_text.specs.Written.{pointed, digits5}
 use Rattle.decimal_text.proofs.Laws.{trim-front, trim-le, pointed-some}
 use Rattle.decimal_text.proofs.with_fraction.Statement.{statement}
 use Rattle.decimal_text.proofs.with_fraction.Tie as tie

@@ -1,7 +1,6 @@
 -- `decimal_text::written` meets its contract. Assumes nothing.
-use mathlib.Core.Path.{_≡_, refl, sym, ap, _∙_}
+use mathlib.Core.Path.{_≡_, _∙_}
 use borrow.Author.Needs.{needs}
-use native.Mathlib.Omega.{arith}
 use mathlib.Core.List.{append-assoc}
 use borrow.Author.Tests.{eq-eqb, ne-eqb}
 use Rattle.buffer.specs.First.{pick}

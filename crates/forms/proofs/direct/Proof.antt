@@ -1,5 +1,5 @@
 -- `forms::direct` meets its contract. Assumes nothing.
-use mathlib.Core.Path.{_≡_, refl, sym, ap, _∙_}
+use mathlib.Core.Path.{sym, ap}
 use borrow.Author.Needs.{needs}
 use Rattle.forms.specs.Forms.{directOf}
 use Rattle.forms.proofs.direct.Statement.{statement}

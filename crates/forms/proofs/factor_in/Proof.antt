@@ -1,11 +1,8 @@
 -- `forms::factor_in` meets its contract. Assumes nothing.
-use mathlib.Core.Path.{_≡_, refl, sym, ap, _∙_}
-use native.Mathlib.Omega.{arith}
+use mathlib.Core.Path.{sym, ap}
 use borrow.Author.Needs.{needs}
-use borrow.Author.Tests.{lt-ltb, le-ltb, le-leb, lt-leb, eq-eqb, ne-eqb, not-true, not-false}
 use Rattle.buffer.specs.First.{pick}
 use Rattle.buffer.proofs.Laws.{within-in, within-below, within-above}
-use mathlib.Core.Bool.{true, false, and-true, and-false}
 use Rattle.forms.specs.Forms.{factorIn}
 use Rattle.forms.proofs.factor_in.Statement.{statement}
 use Rattle.forms.proofs.factor_in.Tie as tie

@@ -1,8 +1,6 @@
 -- `forms::has_idle_list` meets its contract. Assumes nothing.
-use mathlib.Core.Path.{_≡_, refl, sym, ap, _∙_}
+use mathlib.Core.Path.{sym, _∙_}
 use borrow.Author.Needs.{needs}
-use native.Mathlib.Omega.{arith}
-use lib.Dec.{leb}
 use Rattle.forms.specs.Forms.{idleList}
 use Rattle.forms.proofs.has_idle_list.Statement.{statement}
 use Rattle.forms.proofs.has_idle_list.Tie as tie

@@ -1,5 +1,5 @@
 -- `forms::has_mode` meets its contract. Assumes nothing.
-use mathlib.Core.Path.{_≡_, refl, sym, ap, _∙_}
+use mathlib.Core.Path.{sym, _∙_}
 use borrow.Author.Needs.{needs}
 use Rattle.forms.specs.Forms.{knownMode}
 use Rattle.forms.proofs.has_mode.Statement.{statement}

@@ -1,5 +1,5 @@
 -- `forms::in_limits` meets its contract. Assumes nothing.
-use mathlib.Core.Path.{_≡_, refl, sym, ap, _∙_}
+use mathlib.Core.Path.{sym, ap, _∙_}
 use borrow.Author.Needs.{needs}
 use Rattle.buffer.specs.First.{pick}
 use Rattle.forms.specs.Forms.{limitedOf}

@@ -1,5 +1,5 @@
 -- `forms::judge` meets its contract. Assumes nothing.
-use mathlib.Core.Path.{_≡_, refl, sym, ap, _∙_}
+use mathlib.Core.Path.{_∙_}
 use borrow.Author.Needs.{needs}
 use Rattle.forms.specs.Judged.{verdictOf, listIn}
 use Rattle.forms.proofs.judge.Statement.{statement}

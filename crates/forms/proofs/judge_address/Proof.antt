@@ -1,10 +1,9 @@
 -- `forms::judge_address` meets its contract. Assumes nothing.
-use mathlib.Core.Path.{_≡_, refl, sym, ap, _∙_}
+use mathlib.Core.Path.{_≡_, sym, ap, _∙_}
 use native.Mathlib.Omega.{arith}
 use borrow.Author.Needs.{needs}
-use borrow.Author.Tests.{lt-ltb, le-ltb, le-leb, lt-leb, eq-eqb, ne-eqb, not-true, not-false}
+use borrow.Author.Tests.{eq-eqb, ne-eqb, not-true, not-false}
 use Rattle.buffer.specs.First.{pick}
-use mathlib.Core.Bool.{true}
 use lib.ListN.{length, take}
 use lib.Seq.{take-all}
 use Prim.Native.Nat.{ℕ}

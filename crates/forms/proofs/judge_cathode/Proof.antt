@@ -1,5 +1,4 @@
 -- `forms::judge_cathode` meets its contract. Assumes nothing.
-use mathlib.Core.Path.{_≡_, refl, sym, ap, _∙_}
 use borrow.Author.Needs.{needs}
 use Rattle.forms.specs.Forms.{digitOf}
 use Rattle.forms.proofs.judge_cathode.Statement.{statement}

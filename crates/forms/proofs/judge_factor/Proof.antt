@@ -1,5 +1,4 @@
 -- `forms::judge_factor` meets its contract. Assumes nothing.
-use mathlib.Core.Path.{_≡_, refl, sym, ap, _∙_}
 use borrow.Author.Needs.{needs}
 use Rattle.forms.proofs.judge_factor.Statement.{statement}
 use Rattle.forms.proofs.judge_factor.Tie as tie

@@ -1,10 +1,8 @@
 -- `forms::judge_stream` meets its contract. Assumes nothing.
-use mathlib.Core.Path.{_≡_, refl, sym, ap, _∙_}
+use mathlib.Core.Path.{sym, _∙_}
 use borrow.Author.Needs.{needs}
-use Rattle.sources.specs.Source.{listOf}
 use Rattle.forms.specs.Forms.{streamData}
-use Rattle.forms.specs.Judged.{ifSet, JudgesStream}
-use Rattle.forms.specs.declared.Verdict.{Verdict}
+use Rattle.forms.specs.Judged.{ifSet}
 use Rattle.forms.proofs.judge_stream.Statement.{statement}
 use Rattle.forms.proofs.judge_stream.Tie as tie
 

@@ -1,7 +1,7 @@
 -- `forms::stream_verdict` meets its contract. Assumes nothing.
-use mathlib.Core.Path.{_≡_, refl, sym, ap, _∙_}
+use mathlib.Core.Path.{sym, _∙_}
 use borrow.Author.Needs.{needs}
-use borrow.Author.Tests.{lt-ltb, le-ltb, le-leb, lt-leb, eq-eqb, ne-eqb, not-true, not-false}
+use borrow.Author.Tests.{eq-eqb, ne-eqb, not-true, not-false}
 use Rattle.buffer.specs.First.{pick}
 use Rattle.forms.specs.Forms.{streamOf}
 use Rattle.forms.proofs.stream_verdict.Statement.{statement}

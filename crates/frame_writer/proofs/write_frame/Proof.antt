@@ -1,6 +1,5 @@
 -- `frame_writer::write_frame` meets its contract. Each refusal by its tests; the head, the data and the end, one after the other. Assumes nothing.
-use mathlib.Core.Path.{_≡_, refl, sym}
-use mathlib.Core.List.{_++_}
+use mathlib.Core.Path.{sym}
 use Prim.Native.Nat.{_+_}
 use native.Mathlib.Omega.{arith}
 use borrow.Author.Needs.{needs}

@@ -1,5 +1,4 @@
 -- `settings::digit_text` meets its contract. Assumes nothing.
-use mathlib.Core.Path.{_≡_, refl, sym, ap, _∙_}
 use borrow.Author.Needs.{needs}
 use Rattle.buffer.specs.Text.{textOf, cut}
 use Rattle.settings.proofs.digit_text.Statement.{statement}

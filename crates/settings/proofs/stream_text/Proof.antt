@@ -1,9 +1,8 @@
 -- `settings::stream_text` meets its contract. Assumes nothing.
-use mathlib.Core.Path.{_≡_, refl, sym, ap, _∙_}
 use borrow.Author.Needs.{needs}
 use native.Mathlib.Omega.{arith}
-use mathlib.Core.List.{[], _∷_, _++_, append-assoc}
-use lib.ListN.{length, length-append}
+use mathlib.Core.List.{[], _∷_, _++_}
+use lib.ListN.{length-append}
 use Rattle.buffer.specs.Text.{textOf, cut}
 use Rattle.buffer.proofs.Laws.{cut-cut, cut-fits}
 use Rattle.sources.specs.Source.{listOf, listText}

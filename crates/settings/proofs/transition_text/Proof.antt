@@ -1,7 +1,6 @@
 -- `settings::transition_text` meets its contract. Assumes nothing.
-use mathlib.Core.Path.{_≡_, refl, sym, ap, _∙_}
+use mathlib.Core.Path.{_≡_, _∙_}
 use borrow.Author.Needs.{needs}
-use native.Mathlib.Omega.{arith}
 use mathlib.Core.List.{append-assoc}
 use Rattle.buffer.specs.Text.{textOf, cut}
 use Rattle.buffer.proofs.Laws.{cut-cut, cut-fits}

@@ -1,13 +1,10 @@
 -- `sources::long_source` meets its contract. Assumes nothing.
-use mathlib.Core.Path.{_≡_, refl, sym, ap, _∙_}
-use native.Mathlib.Omega.{arith}
+use mathlib.Core.Path.{sym, _∙_}
 use borrow.Author.Needs.{needs}
-use mathlib.Core.List.{[], _∷_}
-use mathlib.Core.Bool.{true, false, and-false, or-true}
-use Prim.Native.Nat.{ℕ}
+use mathlib.Core.Bool.{and-false}
 use borrow.Author.Tests.{eq-eqb, ne-eqb, not-true, not-false}
 use Rattle.buffer.specs.First.{pick}
-use Rattle.sources.specs.Source.{knownSources, sourceOf, isSource, findSource, sourceText}
+use Rattle.sources.specs.Source.{sourceOf, findSource, sourceText}
 use Rattle.buffer.specs.Byte.{sameText}
 use Rattle.sources.proofs.Laws.{long-form, digit-no-T}
 use Rattle.sources.proofs.long_source.Statement.{statement}

@@ -1,5 +1,5 @@
 -- `sources::refused` meets its contract. Assumes nothing.
-use mathlib.Core.Path.{_≡_, refl, sym, ap, _∙_}
+use mathlib.Core.Path.{refl}
 use Rattle.sources.specs.Source.{listOf}
 use Rattle.sources.proofs.refused.Statement.{statement}
 use Rattle.sources.proofs.refused.Tie as tie

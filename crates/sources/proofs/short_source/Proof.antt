@@ -1,11 +1,9 @@
 -- `sources::short_source` meets its contract. Assumes nothing.
-use mathlib.Core.Path.{_≡_, refl, sym, ap, _∙_}
-use native.Mathlib.Omega.{arith}
+use mathlib.Core.Path.{sym, ap, _∙_}
 use borrow.Author.Needs.{needs}
 use mathlib.Core.List.{[], _∷_}
-use mathlib.Core.Bool.{and-false}
 use Prim.Native.Nat.{ℕ}
-use borrow.Author.Tests.{ne-eqb, not-true, not-false}
+use borrow.Author.Tests.{ne-eqb}
 use Rattle.buffer.specs.First.{pick}
 use Rattle.buffer.specs.Byte.{every, within, sameText}
 use Rattle.sources.specs.Source.{knownSources, sourceOf, isSource, findSource, sourceText}

@@ -1,13 +1,9 @@
 -- `sources::source_of` meets its contract. Assumes nothing.
-use mathlib.Core.Path.{_≡_, refl, sym, ap, _∙_}
-use native.Mathlib.Omega.{arith}
+use mathlib.Core.Path.{sym, ap, _∙_}
 use borrow.Author.Needs.{needs}
 use mathlib.Core.Bool.{and-false}
 use borrow.Author.Tests.{ne-eqb}
 use Rattle.buffer.specs.First.{pick}
-use Rattle.buffer.specs.Byte.{within}
-use mathlib.Core.List.{List}
-use Prim.Native.Nat.{ℕ}
 use Rattle.sources.specs.Source.{knownSources, sourceOf, isSource}
 use Rattle.sources.proofs.Laws.{one-byte, two-bytes, not-short}
 use Rattle.sources.proofs.source_of.Statement.{statement}

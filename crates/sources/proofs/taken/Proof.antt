@@ -1,9 +1,7 @@
 -- `sources::taken` meets its contract. Assumes nothing.
-use mathlib.Core.Path.{_≡_, refl, sym, ap, _∙_}
-use native.Mathlib.Omega.{arith}
+use mathlib.Core.Path.{refl, sym}
 use borrow.Author.Needs.{needs}
 use mathlib.Core.Bool.{and-true, and-false}
-use Rattle.sources.specs.Entries.{Taken}
 use Rattle.sources.proofs.taken.Statement.{statement}
 use Rattle.sources.proofs.taken.Tie as tie
 

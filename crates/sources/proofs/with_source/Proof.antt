@@ -1,5 +1,4 @@
 -- `sources::with_source` meets its contract. Assumes nothing.
-use mathlib.Core.Path.{_≡_, refl, sym, ap, _∙_}
 use borrow.Author.Needs.{needs}
 use mathlib.Core.List.{append-assoc}
 use borrow.Author.Tests.{eq-eqb, ne-eqb}

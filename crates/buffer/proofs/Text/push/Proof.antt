@@ -1,11 +1,11 @@
 -- `buffer::Text::push` meets its contract. Assumes nothing.
-use mathlib.Core.Path.{_≡_, refl, sym, ap, _∙_}
+use mathlib.Core.Path.{_≡_, sym, _∙_}
 use native.Mathlib.Numerals.{add-one}
 use native.Mathlib.Omega.{arith}
 use borrow.Author.Needs.{needs}
 use mathlib.Core.List.{[], _∷_}
 use lib.ListN.{length, take, length-append, length-take}
-use lib.Seq.{take-suc-set, take-at, take-all}
+use lib.Seq.{take-suc-set, take-at}
 use Rattle.buffer.specs.Text.{textOf, cut}
 use Rattle.buffer.proofs.Laws.{cut-fits}
 use Rattle.buffer.proofs.Text.push.Statement.{statement}

@@ -1,12 +1,10 @@
 -- `decimal::Number::is_below` meets its contract. Assumes nothing.
-use mathlib.Core.Path.{_≡_, refl, sym, ap, _∙_}
+use mathlib.Core.Path.{sym}
 use borrow.Author.Needs.{needs}
 use native.Mathlib.Omega.{arith}
 use native.Mathlib.Nat.{zero-add, add-zero, zero-mul}
-use borrow.Author.Tests.{lt-ltb, le-ltb, eq-eqb, ne-eqb}
-use mathlib.Core.Bool.{true, false, not}
-use lib.Dec.{eqb, ltb}
-use Prim.Native.Nat.{ℕ, _+_, _*_, _^_, _<_}
+use borrow.Author.Tests.{lt-ltb, le-ltb}
+use Prim.Native.Nat.{_+_}
 use Rattle.decimal.specs.Exact.{units}
 use Rattle.decimal.specs.Number.{belowOf, plus, minus}
 use Rattle.decimal.proofs.Sizes.{units-pos, some-size}

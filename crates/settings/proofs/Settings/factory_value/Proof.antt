@@ -1,5 +1,5 @@
 -- `settings::Settings::factory_value` meets its contract. Assumes nothing.
-use mathlib.Core.Path.{_≡_, refl, sym, ap, _∙_}
+use mathlib.Core.Path.{sym, ap}
 use borrow.Author.Needs.{needs}
 use Rattle.settings.specs.Settings.{factoryOf}
 use Rattle.settings.proofs.Settings.factory_value.Statement.{statement}

@@ -1,5 +1,4 @@
 -- `settings::Settings::text` meets its contract. Assumes nothing.
-use mathlib.Core.Path.{_≡_, refl, sym, ap, _∙_}
 use borrow.Author.Needs.{needs}
 use Rattle.settings.specs.Sent.{readText}
 use Rattle.settings.proofs.Settings.text.Statement.{statement}

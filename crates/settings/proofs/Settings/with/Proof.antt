@@ -1,5 +1,4 @@
 -- `settings::Settings::with` meets its contract. Assumes nothing.
-use mathlib.Core.Path.{_≡_, refl, sym, ap, _∙_}
 use borrow.Author.Needs.{needs}
 use Rattle.settings.specs.Settings.{putOf}
 use Rattle.settings.proofs.Settings.with.Statement.{statement}

@@ -257,14 +257,14 @@ unfolding streamData streamOf streamText leading startsWith idleList knownMode p
 stream-set true list h = rw (ne-eqb (leading (listText list) + 1) 0 (λ (e : leading (listText list) + 1 ≡ 0). omega arith), list-number list h)
 stream-set false list h = rw none-number
 
-pub set : (s : List ℕ) (x : Setting) → Form s x → Sound x → verdictOf (keyOf x) s ≡ Set x
+pub is-set : (s : List ℕ) (x : Setting) → Form s x → Sound x → verdictOf (keyOf x) s ≡ Set x
 unfolding verdictOf
-set s (Address v) f h = rw f (address-set v h)
-set s (PressureIn u) f h = rw f (unit-set u)
-set s (Factor k) f h = factor-set s k (f .0) (f .1) (f .2) (hundredths-of (f .0) k (f .3) (omega (arith, h .1))) h
-set s (Control d) f h = digit-set Control (standard .controlHigh) d s f h (omega arith)
-set s (Cathode d) f h = digit-set Cathode (standard .cathodeHigh) d s f h (omega arith)
-set s (Filament d) f h = digit-set Filament (standard .filamentHigh) d s f h (omega arith)
-set s (Switch (Direct n)) f h = rw (f .1) (direct-set (f .0) n (f .2) h)
-set s (Switch (Between a b)) f h = rw (f .2) (between-set (f .0) (f .1) a b (f .3) (f .4) (h .0) (h .1) (h .2))
-set s (Stream on) f h = rw (f .2) (stream-set on (f .0) (f .1))
+is-set s (Address v) f h = rw f (address-set v h)
+is-set s (PressureIn u) f h = rw f (unit-set u)
+is-set s (Factor k) f h = factor-set s k (f .0) (f .1) (f .2) (hundredths-of (f .0) k (f .3) (omega (arith, h .1))) h
+is-set s (Control d) f h = digit-set Control (standard .controlHigh) d s f h (omega arith)
+is-set s (Cathode d) f h = digit-set Cathode (standard .cathodeHigh) d s f h (omega arith)
+is-set s (Filament d) f h = digit-set Filament (standard .filamentHigh) d s f h (omega arith)
+is-set s (Switch (Direct n)) f h = rw (f .1) (direct-set (f .0) n (f .2) h)
+is-set s (Switch (Between a b)) f h = rw (f .2) (between-set (f .0) (f .1) a b (f .3) (f .4) (h .0) (h .1) (h .2))
+is-set s (Stream on) f h = rw (f .2) (stream-set on (f .0) (f .1))

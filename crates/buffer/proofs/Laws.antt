@@ -8,8 +8,8 @@ use native.Mathlib.Numerals.{add-one}
 use native.Mathlib.Omega.{arith}
 use borrow.Author.Tests.{le-leb, lt-leb, leb-true}
 use lib.Dec.{eqb, leb}
-use lib.ListN.{length, getD, set, drop, take, length-take, length-drop, drop-of-length-le}
-use lib.Seq.{sets, sets-eq, drop-cons, take-at, take-all, set-out, take-nil}
+use lib.ListN.{length, getD, set, drop, take, length-take, length-drop, drop-of-length-le, length-append}
+use lib.Seq.{sets, sets-eq, drop-cons, take-at, take-all, set-out, take-nil, take-suc-set}
 use Rattle.buffer.specs.Answer.{Answer, silent, over, Stored, Sent}
 use Rattle.buffer.specs.Byte.{within, sameText, untilOf, numeralFrom}
 use Rattle.buffer.specs.Text.{textOf, cut}
@@ -148,6 +148,23 @@ ten-step i = rw add-one (pow-suc 10 i)
 
 pub ten-max : (i n : ℕ) → i ≤ n → 10 ^ i ≤ 10 ^ n
 ten-max i n h = pow-le-pow-right {n = 10} (omega arith) h
+
+-- ---- an array of n elements of which the first `at` count
+
+-- one element more, where there is room
+pub filled : (l : List ℕ) (at n b : ℕ) → length l ≡ n → at < n → take (at + 1) (set l at b) ≡ take n (take at l ++ (b ∷ []))
+filled l at n b e h = rw add-one (take-suc-set l at b (omega arith) ∙ sym (take-all n (take at l ++ (b ∷ [])) (simp (length-append, length-take) (omega arith))))
+
+-- and where there is none
+pub full : (l : List ℕ) (at n b : ℕ) → length l ≡ n → n ≤ at → take at l ≡ take n (take at l ++ (b ∷ []))
+full l at n b e h = sym (take-at (take at l) (b ∷ []) n (simp length-take (omega arith)))
+
+-- how many count
+pub count-in : (l : List ℕ) (at n : ℕ) → length l ≡ n → at < n → at ≡ length (take at l)
+count-in l at n e h = simp length-take (omega arith)
+
+pub count-full : (l : List ℕ) (at n : ℕ) → length l ≡ n → n ≤ at → n ≡ length (take at l)
+count-full l at n e h = simp length-take (omega arith)
 
 -- ---- short texts
 

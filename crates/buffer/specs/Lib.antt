@@ -3,3 +3,4 @@ pub mod First
 pub mod Byte
 pub mod Answer
 pub mod Text
+pub mod Quoted

@@ -11,7 +11,8 @@ use lib.Dec.{ltb, eqb, eqb·suc-zero}
 use Rattle.buffer.specs.First.{pick}
 use Rattle.buffer.proofs.Laws.{ten-max}
 use Rattle.decimal.specs.Exact.{sizeOf}
-use Rattle.decimal.specs.Number.{Scaled, countedOf}
+use Rattle.decimal.specs.Number.{countedOf}
+use Rattle.decimal.specs.Inner.{Scaled}
 use Rattle.decimal.specs.declared.Hundredths.{Hundredths}
 
 pub ten-pos : (k : ℕ) → 0 < 10 ^ k

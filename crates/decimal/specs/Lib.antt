@@ -2,3 +2,4 @@
 pub mod Exact
 pub mod Form
 pub mod Number
+pub mod Inner

@@ -1,9 +1,7 @@
 -- Numbers by value. Assumes nothing.
 use mathlib.Core.Bool.{Bool, cond, not}
 use mathlib.Core.List.{[], _∷_}
-use mathlib.Core.Path.{_≡_}
-use mathlib.Core.Logic.{_⊎_}
-use Prim.Native.Nat.{ℕ, _+_, _*_, _/_, _%_, _^_, _≤_}
+use Prim.Native.Nat.{ℕ, _+_, _/_, _%_, _^_}
 use lib.Dec.{ltb, leb, eqb}
 use Rattle.buffer.specs.First.{_⇒_, first}
 use Rattle.decimal.specs.Exact.{units}
@@ -33,7 +31,3 @@ countedOf h = first (leb 100000 h ⇒ Other ∷ []) (Whole h)
 -- how many hundredths a number's size is, where they are whole and fewer than 100000
 unfoldable pub hundredthsOf : Number → Hundredths
 hundredthsOf n = first (not (eqb (units n % 10 ^ 12) 0) ⇒ Other ∷ []) (countedOf (units n / 10 ^ 12))
-
--- r is m * 10 ^ d, or both are beyond a u32
-abbrev pub Scaled : ℕ → ℕ → ℕ → Type 0
-Scaled m d r = (r ≡ m * 10 ^ d) ⊎ ((4294967296 ≤ r) × (4294967296 ≤ m * 10 ^ d))

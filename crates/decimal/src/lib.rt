@@ -7,7 +7,8 @@ ghost use lib.Dec.{ltb};
 ghost use Rattle.buffer.specs.Byte.{numeral};
 ghost use Rattle.decimal.specs.Exact.{units, sizeOf, normalOf};
 ghost use Rattle.decimal.specs.Form.{leading, startsWith, powerOf, exponentOf, fractionOf, unsignedOf, scanOf, numberOf};
-ghost use Rattle.decimal.specs.Number.{belowOf, countedOf, hundredthsOf, Scaled};
+ghost use Rattle.decimal.specs.Number.{belowOf, countedOf, hundredthsOf};
+ghost use Rattle.decimal.specs.Inner.{Scaled};
 
 // A number: mantissa * 10 ^ place, in 10^-14. A reader gives the canonical one of each value: a mantissa of six digits, the first not
 // zero, and place 0 to 18; zero is ZERO.

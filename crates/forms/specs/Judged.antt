@@ -50,8 +50,3 @@ listIn SM s = ifSet (streamData s) (entriesList (drop 1 s))
 pub record Judges (key : Key) (s : List ℕ) (r : Judged) : Type 0 where
   pub verdict : r .verdict ≡ verdictOf key s
   pub list : listOf (r .sources) ≡ listIn key s
-
--- the same of SM's data alone
-pub record JudgesStream (s : List ℕ) (r : Judged) : Type 0 where
-  pub verdict : r .verdict ≡ streamData s
-  pub list : listOf (r .sources) ≡ ifSet (streamData s) (entriesList (drop 1 s))

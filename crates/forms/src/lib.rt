@@ -6,9 +6,10 @@ ghost use Prim.Native.Nat.{min};
 ghost use Rattle.decimal.specs.Form.{numberOf};
 ghost use Rattle.sources.specs.Source.{listOf};
 ghost use Rattle.settings.specs.Limits.{standard};
+ghost use Rattle.settings.specs.declared.Key.{Key};
 ghost use Rattle.settings.specs.declared.Setting.{Setting};
 ghost use Rattle.forms.specs.Forms.{addressData, unitData, factorIn, factorOf, digitData, digitOf, limitedOf, directOf, betweenOf, transitionData, idleList, knownMode, streamOf};
-ghost use Rattle.forms.specs.Judged.{Judges, JudgesStream};
+ghost use Rattle.forms.specs.Judged.{Judges};
 
 // What a write's data are: a setting with its value, or the refusal's number.
 pub enum Verdict {
@@ -289,7 +290,7 @@ fn stream_verdict(s: &[u8], number: u8) -> Verdict
 
 // SM. The list is never filled past its end, whatever the text.
 pub fn judge_stream(s: &[u8]) -> Judged
-    ensures { λ r. ⌜ JudgesStream (now (s .entry)) r ⌝ }
+    ensures { λ r. ⌜ Judges Key.SM (now (s .entry)) r ⌝ }
 {
     let listed = sources::read_entries(buffer::rest(s, 1));
     let sources = listed.sources;

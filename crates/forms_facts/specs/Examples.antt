@@ -22,7 +22,7 @@ use Rattle.forms.specs.Forms.{addressData, unitData, factorIn, factorOf, digitD
 use Rattle.forms.specs.Judged.{verdictOf, verdictNumber, ifSet, listIn}
 use Rattle.forms.specs.declared.Verdict.{Verdict}
 use Rattle.forms.specs.declared.Verdict.the-variants.{Set, Refused}
-use Rattle.forms_facts.specs.Quoted.{bytes}
+use Rattle.buffer.specs.Quoted.{bytes}
 
 -- a write's data, and the number that the paper gives it
 pub record Case : Type 0 where

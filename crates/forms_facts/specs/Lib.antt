@@ -1,7 +1,6 @@
 -- Document 01, "Settings and readings, V2", the column "Data": theorems to lay beside the paper. Examples has worked cases. Codes, Form and
 -- Sound say what the words mean, Digit and Exactly what is accepted, Within and Kept that it lies within the limits, Again and Read what
 -- reads then send.
-pub mod Quoted
 pub mod Examples
 pub mod Codes
 pub mod Form

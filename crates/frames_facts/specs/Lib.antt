@@ -1,2 +1,3 @@
 -- What follows from the definitions of `frames`.
 pub mod ReadBack
+pub mod Examples

@@ -10,7 +10,8 @@ use lib.Seq.{drop-drop, take-all}
 use Rattle.buffer.specs.Byte.{every, untilOf}
 use Rattle.buffer.proofs.Laws.{drop-step, take-cut}
 use Rattle.sources.specs.Source.{sourceOf, knownSources, listOf}
-use Rattle.sources.specs.Entries.{entriesOf, sourceTexts, isFormed, isKnown, codeOf, entriesNumber, entriesList, Taken, Ran, Lists}
+use Rattle.sources.specs.Entries.{entriesOf, sourceTexts, isFormed, isKnown, codeOf, entriesNumber, entriesList, Lists}
+use Rattle.sources.specs.Inner.{Taken, Ran}
 use Rattle.sources.specs.declared.Run.{Run}
 use Rattle.sources.specs.declared.Listed.{Listed}
 use Rattle.sources.specs.declared.Sources.{Sources}

@@ -1,14 +1,13 @@
 -- A text of entries, "each entry is `D` and a source". Assumes nothing.
 use mathlib.Core.Path.{_≡_}
-use mathlib.Core.Bool.{Bool, true, false, cond, not, _&&_, _||_}
-use mathlib.Core.List.{List, [], _∷_, _++_, map}
-use Prim.Native.Nat.{ℕ, _+_}
+use mathlib.Core.Bool.{Bool, true, false, cond, not, _||_}
+use mathlib.Core.List.{List, [], _∷_, map}
+use Prim.Native.Nat.{ℕ}
 use lib.Dec.{eqb, ltb}
-use lib.ListN.{length, take}
+use lib.ListN.{length}
 use Rattle.buffer.specs.First.{_⇒_, first}
 use Rattle.buffer.specs.Byte.{at, every}
 use Rattle.sources.specs.Source.{sourceOf, knownSources, mostEntries, listOf}
-use Rattle.sources.specs.declared.Run.{Run}
 use Rattle.sources.specs.declared.Listed.{Listed}
 use Rattle.sources.specs.declared.Source.{Source}
 use Rattle.sources.specs.declared.Source.the-variants.{Known, Unknown, Malformed}
@@ -71,17 +70,3 @@ entriesList s = cond (eqb (entriesNumber s) 0) (map codeOf (entriesOf s)) []
 pub record Lists (s : List ℕ) (r : Listed) : Type 0 where
   pub number : r .number ≡ entriesNumber s
   pub list : listOf (r .sources) ≡ entriesList s
-
--- r is `run` and one entry more
-pub record Taken (run : Run) (e : Source) (r : Run) : Type 0 where
-  pub formed : r .formed ≡ (run .formed && isFormed e)
-  pub known : r .known ≡ (run .known && isKnown e)
-  pub count : r .count ≡ run .count + 1
-  pub sources : listOf (r .sources) ≡ take 7 (listOf (run .sources) ++ (codeOf e ∷ []))
-
--- r is all entries of a text
-pub record Ran (s : List ℕ) (r : Run) : Type 0 where
-  pub formed : r .formed ≡ every isFormed (entriesOf s)
-  pub known : r .known ≡ every isKnown (entriesOf s)
-  pub count : r .count ≡ length (entriesOf s)
-  pub sources : listOf (r .sources) ≡ take 7 (map codeOf (entriesOf s))

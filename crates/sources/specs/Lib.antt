@@ -1,3 +1,4 @@
 -- Document 01, "Settings and readings, V2": the sources of the stream line and their list.
 pub mod Source
 pub mod Entries
+pub mod Inner

@@ -4,8 +4,9 @@ ghost use mathlib.Core.List.{[], _∷_, _++_};
 ghost use Prim.Native.Nat.{_+_, _^_, _<_};
 ghost use lib.ListN.{length, take};
 ghost use Rattle.buffer.specs.Text.{textOf, cut};
-ghost use Rattle.sources.specs.Source.{knownSources, sourceOf, sourceText, listOf, listText};
-ghost use Rattle.sources.specs.Entries.{opens, Taken, Ran, Lists};
+ghost use Rattle.sources.specs.Source.{knownSources, mostEntries, sourceOf, sourceText, listOf, listText};
+ghost use Rattle.sources.specs.Entries.{opens, Lists};
+ghost use Rattle.sources.specs.Inner.{Taken, Ran};
 
 // A list of sources by their codes: a source's digit, 8 for `T2`, 9 for `T6`. The first `count` of the codes.
 pub struct Sources {
@@ -21,6 +22,9 @@ pub enum Source {
 }
 
 impl Sources {
+    // "up to seven sources"
+    pub const MOST: usize = 7;
+
     pub const NONE: Sources = Sources {
         codes: [0, 0, 0, 0, 0, 0, 0],
         count: 0,
@@ -28,10 +32,10 @@ impl Sources {
 
     // The list and one source more. A full list stays as it is.
     pub fn push(mut self, code: u8) -> Sources
-        ensures { λ r. ⌜ listOf r ≡ take 7 (listOf self ++ (code ∷ [])) ⌝ }
+        ensures { λ r. ⌜ listOf r ≡ take mostEntries (listOf self ++ (code ∷ [])) ⌝ }
     {
         let at = self.count;
-        if 7 <= at {
+        if Sources::MOST <= at {
             return self;
         }
         self.codes[at] = code;
@@ -44,10 +48,10 @@ impl Sources {
         ensures { λ r. ⌜ r ≡ length (listOf self) ⌝ }
     {
         let n = self.count;
-        if n < 7 {
+        if n < Sources::MOST {
             return n;
         }
-        7
+        Sources::MOST
     }
 }
 
@@ -204,7 +208,7 @@ pub fn read_entries(s: &[u8]) -> Listed
     if !known {
         return refused(11);
     }
-    if 7 < count {
+    if Sources::MOST < count {
         return refused(11);
     }
     let sources = run.sources;

@@ -40,4 +40,4 @@ judge-spec =
     (λ c. rw (c .before .before .enum-told5 .given .1) (record { verdict = c .plain5 .ensures .0 ∙ c .before .judge-cathode .ensures; list = c .plain5 .ensures .1 }))
     (λ c. rw (c .before .before .enum-told6 .given .1) (record { verdict = c .plain6 .ensures .0 ∙ c .before .judge-filament .ensures; list = c .plain6 .ensures .1 }))
     (λ c. rw (c .before .before .enum-told7 .given .1) (record { verdict = c .plain7 .ensures .0 ∙ c .before .judge-transition .ensures; list = c .plain7 .ensures .1 }))
-    (λ c. rw (c .before .enum-told8 .given .1) (record { verdict = c .judge-stream .ensures .verdict; list = c .judge-stream .ensures .list })))
+    (λ c. rw (c .before .enum-told8 .given .1) (c .judge-stream .ensures)))

@@ -2,13 +2,13 @@
 use mathlib.Core.Path.{sym, _∙_}
 use borrow.Author.Needs.{needs}
 use Rattle.forms.specs.Forms.{streamData}
-use Rattle.forms.specs.Judged.{ifSet}
+use Rattle.forms.specs.Judged.{verdictOf, listIn, ifSet}
 use Rattle.forms.proofs.judge_stream.Statement.{statement}
 use Rattle.forms.proofs.judge_stream.Tie as tie
 
 -- the entries are what follows the mode
 returns : tie.Need-returns
-unfolding streamData ifSet
+unfolding verdictOf listIn streamData ifSet
 returns c =
     let l = c .before .before .before .before .before .read-entries .ensures in
     let t = c .before .before .before .before .before .before .rest .ensures in
@@ -17,7 +17,7 @@ returns c =
     record { verdict = sym e ∙ v; list = rw (← v, e) (rw t at (l .list)) }
 
 returns-2 : tie.Need-returns-2
-unfolding streamData ifSet
+unfolding verdictOf listIn streamData ifSet
 returns-2 c =
     let l = c .before .before .before .before .before .before .read-entries .ensures in
     let t = c .before .before .before .before .before .before .before .rest .ensures in

@@ -1,0 +1,108 @@
+-- Document 01, "Text frames" and the reply column of its table: worked cases, their bytes and numbers taken from the paper. Assumes nothing.
+use mathlib.Core.Path.{_≡_, refl}
+use mathlib.Core.Bool.{Bool, true}
+use mathlib.Core.List.{List, [], _∷_}
+use Prim.Native.Nat.{ℕ}
+use Prim.Native.String.{String}
+use lib.Dec.{eqb}
+use Rattle.buffer.specs.First.{pick}
+use Rattle.buffer.specs.Byte.{at, within, every, sameText, numeralFrom}
+use Rattle.buffer.specs.Quoted.{bytes}
+use Rattle.frames.specs.Checksum.{sumOf, checksumOf, endOf, closed}
+use Rattle.frames.specs.Frame.{isLetter, lengthFits, misshapen, wrongSum, wrongAddress, wrongLength, headV1, headV2, frameOf, frameNumber}
+use Rattle.frames.specs.declared.HeadV1.{HeadV1}
+use Rattle.frames.specs.declared.HeadV2.{HeadV2}
+use Rattle.frame_writer.specs.Written.{frameV2, frameV1}
+use Rattle.frame_writer.specs.Error.{errorOf, errorBytes, errorHeadV2, errorLetterV1, errorDataV1, errorHeadV1}
+
+-- ---- bytes that come, and the number that a reader of frames gives them: 0 is a frame
+
+pub record Case : Type 0 where
+  pub text : List ℕ
+  pub number : ℕ
+
+abbrev pub expect : String → ℕ → Case
+expect text number = record { text = bytes text; number = number }
+
+abbrev pub cases : List Case
+cases =
+    expect "0010MV00D\r" 0
+    ∷ expect "001M982122V\r" 0
+    ∷ expect "0012SM064D7DT2B\r" 0
+    ∷ expect "0011C1041.00Y\r" 0
+    ∷ expect "0012CC010Z\r" 0
+    ∷ expect "001C000100u\r" 0
+    -- 127 is a legal checksum; an address that is another gauge's is a frame
+    ∷ expect "0060DU00\u{7f}\r" 0
+    ∷ expect "0170MV00K\r" 0
+    -- SHAPE: no bytes, nine bytes, a V1 frame of 13, byte 3, CR at the checksum's place, no CR, a byte 127 before the checksum
+    ∷ expect "" 2
+    ∷ expect "0010MV0T\r" 2
+    ∷ expect "001c0000100E\r" 2
+    ∷ expect "001 MV00t\r" 2
+    ∷ expect "0010MV00\r\r" 2
+    ∷ expect "0010MV00D" 2
+    ∷ expect "0012DU04mb\u{7f}r@\r" 2
+    -- CHECKSUM: another byte, and one that no checksum can be
+    ∷ expect "0010MV00E\r" 3
+    ∷ expect "0010MV00\u{80}\r" 3
+    -- ADDRESS: 000, and no digit
+    ∷ expect "0000MV00C\r" 4
+    ∷ expect "0A10MV00U\r" 4
+    -- LENGTH: not the data count, LEN that is no number, LEN 99
+    ∷ expect "0019XX01[\r" 6
+    ∷ expect "0010MV0AU\r" 6
+    ∷ expect "0012SM994D7D\r" 6
+    ∷ []
+
+abbrev pub right : Case → Bool
+right c = eqb (frameNumber (frameOf (c .text))) (c .number)
+
+pub all-read : every right cases ≡ true
+unfolding bytes every within pick sumOf checksumOf numeralFrom isLetter lengthFits misshapen wrongSum wrongAddress wrongLength headV1 headV2 frameOf frameNumber
+all-read = refl
+
+-- ---- frames that are sent
+
+pub record Sending : Type 0 where
+  pub frame : List ℕ
+  pub text : List ℕ
+
+-- the error frame of a V2 request to address 1 with this command, and of a V1 request with this letter
+abbrev pub errorV2 : String → ℕ → String → Sending
+errorV2 command number text =
+    let h : HeadV2 = record { address = 1; access = 48; first = at (bytes command) 0; second = at (bytes command) 1 } in
+    record { frame = frameV2 (errorHeadV2 h) (errorBytes (errorOf number)); text = bytes text }
+
+abbrev pub errorV1 : String → ℕ → String → Sending
+errorV1 letter number text =
+    let h : HeadV1 = record { address = 1; letter = at (bytes letter) 0 } in
+    record { frame = frameV1 (errorHeadV1 number h) (errorDataV1 number); text = bytes text }
+
+abbrev pub sendings : List Sending
+sendings =
+    errorV2 "MV" 6 "0017MV06LENGTHS\r"
+    ∷ errorV2 "XX" 6 "0017XX06LENGTH`\r"
+    ∷ errorV2 "XX" 7 "0017XX06_LOGICk\r"
+    ∷ errorV2 "MR" 8 "0017MR06NO_DEFX\r"
+    ∷ errorV2 "MV" 9 "0017MV06_LOGIC^\r"
+    ∷ errorV2 "CC" 10 "0017CC06SYNTAX[\r"
+    ∷ errorV2 "CC" 11 "0017CC06_RANGE@\r"
+    ∷ errorV2 "CC" 12 "0017CC06_LOGICA\r"
+    ∷ errorV2 "T2" 13 "0017T206ERROR1o\r"
+    ∷ errorV1 "X" 8 "001NO_DEF\\\r"
+    ∷ errorV1 "c" 10 "001c_LOGICA\r"
+    ∷ errorV1 "c" 12 "001c_LOGICA\r"
+    ∷ errorV1 "c" 11 "001c_RANGE@\r"
+    ∷ errorV1 "C" 11 "001C_RANGE`\r"
+    ∷ errorV1 "M" 13 "001M1O\r"
+    -- the frameless line of 973.4
+    ∷ record { frame = closed (bytes "9.734e2"); text = bytes "9.734e2\\\r" }
+    ∷ []
+
+abbrev pub well : Sending → Bool
+well c = sameText (c .frame) (c .text)
+
+pub all-sent : every well sendings ≡ true
+unfolding bytes every pick sameText sumOf checksumOf endOf closed frameV2 frameV1 errorOf errorBytes errorHeadV2 errorLetterV1 errorDataV1 errorHeadV1
+all-sent = refl

@@ -1,0 +1,25 @@
+-- What inner functions promise; no public contract cites this file. Assumes nothing.
+use mathlib.Core.Path.{_≡_}
+use mathlib.Core.Bool.{_&&_}
+use mathlib.Core.List.{List, [], _∷_, _++_, map}
+use Prim.Native.Nat.{ℕ, _+_}
+use lib.ListN.{length, take}
+use Rattle.buffer.specs.Byte.{every}
+use Rattle.sources.specs.Source.{mostEntries, listOf}
+use Rattle.sources.specs.Entries.{entriesOf, isFormed, isKnown, codeOf}
+use Rattle.sources.specs.declared.Run.{Run}
+use Rattle.sources.specs.declared.Source.{Source}
+
+-- r is `run` and one entry more
+pub record Taken (run : Run) (e : Source) (r : Run) : Type 0 where
+  pub formed : r .formed ≡ (run .formed && isFormed e)
+  pub known : r .known ≡ (run .known && isKnown e)
+  pub count : r .count ≡ run .count + 1
+  pub sources : listOf (r .sources) ≡ take mostEntries (listOf (run .sources) ++ (codeOf e ∷ []))
+
+-- r is all entries of a text
+pub record Ran (s : List ℕ) (r : Run) : Type 0 where
+  pub formed : r .formed ≡ every isFormed (entriesOf s)
+  pub known : r .known ≡ every isKnown (entriesOf s)
+  pub count : r .count ≡ length (entriesOf s)
+  pub sources : listOf (r .sources) ≡ take mostEntries (map codeOf (entriesOf s))

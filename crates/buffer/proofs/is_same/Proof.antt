@@ -1,10 +1,11 @@
 -- `buffer::is_same` meets its contract. The invariant: what is left is the same exactly if the whole is. Assumes nothing.
 use mathlib.Core.Path.{_≡_, refl, sym}
-use mathlib.Core.Bool.{and-true, and-false}
+use mathlib.Core.Bool.{true, false, and-true, and-false}
 use Prim.Native.Nat.{_-_, _≤_}
 use native.Mathlib.Omega.{arith}
 use borrow.Author.Tests.{eq-eqb, ne-eqb}
-use lib.ListN.{length, drop, drop-of-length-le}
+use lib.Dec.{eqb}
+use lib.ListN.{length, drop, drop-of-length-le, getD}
 use Rattle.buffer.specs.Byte.{sameText}
 use Rattle.buffer.proofs.Laws.{same-lengths, same-step}
 use Rattle.buffer.proofs.is_same.Statement.{statement}
@@ -21,14 +22,16 @@ returns-2 c =
     let l = c .before .before .before .before .loop in
     let a = c .before .before .before .before .before .before .args in
     let e = same-step (a .s .now) (a .t .now) (l .i) (omega arith) (omega arith) in
-    rw (e, ne-eqb _ _ (c .if2 .taken), and-false) at (l .inv .1)
+    let differ : eqb (getD (a .s .now) (l .i) 0) (getD (a .t .now) (l .i) 0) ≡ false = ne-eqb _ _ (c .if2 .taken) in
+    rw (e, differ, and-false) at (l .inv .1)
 
 loop-again : tie.Need-loop-again Inv-loop μ-loop
 loop-again c =
     let l = c .before .before .before .before .loop in
     let a = c .before .before .before .before .before .before .args in
     let e = same-step (a .s .now) (a .t .now) (l .i) (omega arith) (omega arith) in
-    (omega arith, rw (e, eq-eqb _ _ (c .if2 .left), and-true) at (l .inv .1))
+    let agree : eqb (getD (a .s .now) (l .i) 0) (getD (a .t .now) (l .i) 0) ≡ true = eq-eqb _ _ (c .if2 .left) in
+    (omega arith, rw (e, agree, and-true) at (l .inv .1))
 
 returns-3 : tie.Need-returns-3 Inv-loop μ-loop
 unfolding sameText

@@ -1,9 +1,11 @@
 -- `buffer::until` meets its contract. The invariant: i bytes and those before the first b of what is left. Assumes nothing.
 use mathlib.Core.Path.{_≡_}
+use mathlib.Core.Bool.{true, false}
 use Prim.Native.Nat.{_+_, _-_, _≤_}
 use native.Mathlib.Omega.{arith}
 use borrow.Author.Tests.{eq-eqb, ne-eqb}
-use lib.ListN.{length, drop}
+use lib.Dec.{eqb}
+use lib.ListN.{length, drop, getD}
 use Rattle.buffer.specs.Byte.{untilOf}
 use Rattle.buffer.proofs.Laws.{until-step, until-end}
 use Rattle.buffer.proofs.until.Statement.{statement}
@@ -19,14 +21,16 @@ returns : tie.Need-returns Inv-loop μ-loop
 returns c =
     let l = c .before .before .before .loop in
     let s = c .before .before .before .before .args .s .now in
-    let e = rw (eq-eqb _ _ (c .if1 .taken)) at (until-step (c .before .before .before .before .args .b) s (l .i) (omega arith)) in
+    let found : eqb (getD s (l .i) 0) (c .before .before .before .before .args .b) ≡ true = eq-eqb _ _ (c .if1 .taken) in
+    let e = rw found at (until-step (c .before .before .before .before .args .b) s (l .i) (omega arith)) in
     omega (arith, e)
 
 loop-again : tie.Need-loop-again Inv-loop μ-loop
 loop-again c =
     let l = c .before .before .before .loop in
     let s = c .before .before .before .before .args .s .now in
-    let e = rw (ne-eqb _ _ (c .if1 .left)) at (until-step (c .before .before .before .before .args .b) s (l .i) (omega arith)) in
+    let other : eqb (getD s (l .i) 0) (c .before .before .before .before .args .b) ≡ false = ne-eqb _ _ (c .if1 .left) in
+    let e = rw other at (until-step (c .before .before .before .before .args .b) s (l .i) (omega arith)) in
     (omega arith, omega (arith, e))
 
 pub until-spec : {M : Type 1} → statement M

@@ -1,10 +1,12 @@
 -- `decimal::count_digits` meets its contract. The invariant: i digits and those that lead what is left are all that lead. Assumes nothing.
 use mathlib.Core.Path.{_≡_, sym, _∙_}
+use mathlib.Core.Bool.{true, false}
 use Prim.Native.Nat.{_+_, _-_, _≤_}
 use native.Mathlib.Omega.{arith}
 use borrow.Author.Needs.{needs}
 use borrow.Author.Tests.{not-true, not-false}
-use lib.ListN.{length, drop}
+use lib.ListN.{length, drop, getD}
+use Rattle.buffer.specs.Byte.{isDigit}
 use Rattle.decimal.specs.Form.{leading}
 use Rattle.decimal.proofs.Laws.{leading-step, leading-end}
 use Rattle.decimal.proofs.count_digits.Statement.{statement}
@@ -20,14 +22,16 @@ returns : tie.Need-returns Inv-loop μ-loop
 returns c =
     let l = c .before .before .before .before .loop in
     let s = c .before .before .before .before .before .before .args .s .now in
-    let e = rw (sym (c .before .is-within .ensures) ∙ not-true _ (c .if1 .taken)) at (leading-step s (l .i) (omega arith)) in
+    let none : isDigit (getD s (l .i) 0) ≡ false = sym (c .before .is-within .ensures) ∙ not-true _ (c .if1 .taken) in
+    let e = rw none at (leading-step s (l .i) (omega arith)) in
     omega (arith, e)
 
 loop-again : tie.Need-loop-again Inv-loop μ-loop
 loop-again c =
     let l = c .before .before .before .before .loop in
     let s = c .before .before .before .before .before .before .args .s .now in
-    let e = rw (sym (c .before .is-within .ensures) ∙ not-false _ (c .if1 .left)) at (leading-step s (l .i) (omega arith)) in
+    let one : isDigit (getD s (l .i) 0) ≡ true = sym (c .before .is-within .ensures) ∙ not-false _ (c .if1 .left) in
+    let e = rw one at (leading-step s (l .i) (omega arith)) in
     (omega arith, omega (arith, e))
 
 pub count-digits-spec : {M : Type 1} → statement M

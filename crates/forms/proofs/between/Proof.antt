@@ -1,14 +1,13 @@
 -- `forms::between` meets its contract. Assumes nothing.
-use mathlib.Core.Path.{sym, _∙_}
+use mathlib.Core.Path.{refl}
 use borrow.Author.Needs.{needs}
-use borrow.Author.Tests.{not-true, not-false}
-use Rattle.buffer.specs.First.{pick}
+use Rattle.buffer.proofs.Rules.{past, stop, unflag}
 use Rattle.forms.specs.Forms.{betweenOf}
 use Rattle.forms.proofs.between.Statement.{statement}
 use Rattle.forms.proofs.between.Tie as tie
 
 pub between-spec : {M : Type 1} → statement M
-unfolding betweenOf pick
+unfolding betweenOf
 between-spec =
     tie.close
     (tie.spec
@@ -20,8 +19,8 @@ between-spec =
     (λ c. search needs)
     (λ c. search needs)
     (λ c κs. search needs)
-    (λ c. rw (c .before .before .before .before .before .before .low2 .given .1, c .before .before .before .high3 .given .1, sym (c .before .is-below .ensures) ∙ not-true _ (c .if1 .taken)))
+    (λ c. rw (c .before .before .before .before .before .before .low2 .given .1, c .before .before .before .high3 .given .1) (stop _ _ _ _ (unflag _ _ _ (c .before .is-below .ensures) (c .if1 .taken)) refl))
     (λ c. rw (c .before .before .before .before .before .low .given .1, c .before .before .high .given .1, c .lesser .ensures))
     (λ c. rw (c .before .before .before .low .given .1, c .enum-told .given .1))
     (λ c. rw (c .before .before .before .before .low2 .given .1, c .before .high2 .given .1))
-    (λ c. rw (c .before .before .before .before .before .before .low2 .given .1, c .before .before .before .high3 .given .1, sym (c .before .is-below .ensures) ∙ not-false _ (c .if1 .left))))
+    (λ c. rw (c .before .before .before .before .before .before .low2 .given .1, c .before .before .before .high3 .given .1) (past _ _ _ _ (unflag _ _ _ (c .before .is-below .ensures) (c .if1 .left)) refl)))

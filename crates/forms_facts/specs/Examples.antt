@@ -157,7 +157,7 @@ sends =
 
 -- what a read sends after this write
 abbrev pub sentAfter : Key → List ℕ → Verdict → List ℕ
-sentAfter key text (Set x) = readText key (putOf factory x (record { codes = listIn key text; count = length (listIn key text) }))
+sentAfter key text (Set x) = readText key (putOf factory x (listIn key text))
 sentAfter key text (Refused k) = []
 
 abbrev pub well : Sends → Bool

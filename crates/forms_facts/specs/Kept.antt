@@ -1,19 +1,16 @@
 -- Settings stay within the limits: at factory, and after what is accepted. Assumes nothing.
 use mathlib.Core.Path.{_≡_, refl}
-use mathlib.Core.List.{List}
+use mathlib.Core.List.{List, []}
 use mathlib.Core.Logic.{inr}
 use Prim.Native.Nat.{ℕ}
 use native.Mathlib.Omega.{arith}
 use Rattle.decimal.specs.Exact.{units}
 use Rattle.decimal.specs.Number.{plus, minus, belowOf}
-use Rattle.sources.specs.Source.{listOf}
-use Rattle.sources.specs.declared.Sources.{Sources}
-use Rattle.settings.specs.Settings.{factory, noSources, factoryOf, putOf, restoreOf}
+use Rattle.settings.specs.Settings.{Held, factory, factoryOf, putOf, restoreOf}
 use Rattle.settings.specs.declared.Key.{Key}
 use Rattle.settings.specs.declared.Key.the-variants.{DA, DU, C1, CM, CC, FC, ST, SM}
 use Rattle.settings.specs.declared.Setting.{Setting}
 use Rattle.settings.specs.declared.Setting.the-variants.{Address, PressureIn, Factor, Control, Cathode, Filament, Switch, Stream}
-use Rattle.settings.specs.declared.Settings.{Settings}
 use Rattle.forms.specs.Judged.{verdictOf, listIn}
 use Rattle.forms.specs.declared.Verdict.the-variants.{Set}
 use Rattle.forms_facts.specs.Codes.{Short}
@@ -23,7 +20,7 @@ use Rattle.forms_facts.specs.Lemmas.Lists.{none-short}
 
 -- a gauge starts within the limits
 pub factory-sound : SoundSettings factory
-unfolding listOf belowOf plus minus units
+unfolding belowOf plus minus units
 factory-sound =
     record {
       address = (omega arith, omega arith);
@@ -40,7 +37,7 @@ factory-sound =
     }
 
 -- one setting set to what is sound
-put-sound : (s : Settings) (x : Setting) (list : Sources) → SoundSettings s → Sound x → Short (listOf list) → SoundSettings (putOf s x list)
+put-sound : (s : Held) (x : Setting) (list : List ℕ) → SoundSettings s → Sound x → Short list → SoundSettings (putOf s x list)
 unfolding putOf
 put-sound s (Address v) list f h k = record { address = h; factor = f .factor; control = f .control; cathode = f .cathode; filament = f .filament; transition = f .transition; list = f .list }
 put-sound s (PressureIn v) list f h k = record { address = f .address; factor = f .factor; control = f .control; cathode = f .cathode; filament = f .filament; transition = f .transition; list = f .list }
@@ -52,9 +49,8 @@ put-sound s (Switch v) list f h k = record { address = f .address; factor = f .f
 put-sound s (Stream v) list f h k = record { address = f .address; factor = f .factor; control = f .control; cathode = f .cathode; filament = f .filament; transition = f .transition; list = k }
 
 -- an accepted write keeps them there
-pub write-sound : (key : Key) (t : List ℕ) (x : Setting) (list : Sources) (s : Settings) → SoundSettings s → verdictOf key t ≡ Set x → listOf list ≡ listIn key t
-    → SoundSettings (putOf s x list)
-write-sound key t x list s f e l = put-sound s x list f (accepted-sound key t x e) (rw l (accepted-list key t))
+pub write-sound : (key : Key) (t : List ℕ) (x : Setting) (s : Held) → SoundSettings s → verdictOf key t ≡ Set x → SoundSettings (putOf s x (listIn key t))
+write-sound key t x s f e = put-sound s x (listIn key t) f (accepted-sound key t x e) (accepted-list key t)
 
 factory-value : (key : Key) → Sound (factoryOf key)
 unfolding factoryOf
@@ -68,6 +64,6 @@ factory-value ST = factory-sound .transition
 factory-value SM = tt
 
 -- and so does a restore
-pub restore-sound : (key : Key) (s : Settings) → SoundSettings s → SoundSettings (restoreOf s key)
+pub restore-sound : (key : Key) (s : Held) → SoundSettings s → SoundSettings (restoreOf s key)
 unfolding restoreOf
-restore-sound key s f = put-sound s (factoryOf key) noSources f (factory-value key) (factory-sound .list)
+restore-sound key s f = put-sound s (factoryOf key) [] f (factory-value key) (factory-sound .list)

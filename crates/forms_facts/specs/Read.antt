@@ -7,7 +7,7 @@ use native.Mathlib.Omega.{arith}
 use Rattle.buffer.specs.Byte.{digit}
 use Rattle.decimal_text.specs.Written.{writtenOf, twoDecimals}
 use Rattle.decimal_facts.specs.RoundTrip.{written-reads, hundredths-read}
-use Rattle.sources.specs.Source.{listOf}
+use Rattle.settings.specs.Settings.{Held}
 use Rattle.settings.specs.Sent.{transitionText, streamText, readText}
 use Rattle.settings.specs.declared.Transition.{Transition}
 use Rattle.settings.specs.declared.Transition.the-variants.{Direct, Between}
@@ -15,7 +15,6 @@ use Rattle.settings.specs.declared.Key.{Key}
 use Rattle.settings.specs.declared.Key.the-variants.{DA, DU, C1, CM, CC, FC, ST, SM}
 use Rattle.settings.specs.declared.Setting.{Setting}
 use Rattle.settings.specs.declared.Setting.the-variants.{Address, PressureIn, Factor, Control, Cathode, Filament, Switch, Stream}
-use Rattle.settings.specs.declared.Settings.{Settings}
 use Rattle.forms.specs.Judged.{verdictOf, ifSet, listIn}
 use Rattle.forms.specs.declared.Verdict.the-variants.{Set}
 use Rattle.forms_facts.specs.Sound.{Sound, SoundSettings}
@@ -25,7 +24,7 @@ use Rattle.forms_facts.specs.Lemmas.Numbers.{of-hundredths}
 use Rattle.forms_facts.specs.Lemmas.Texts.{list-again}
 
 -- the value of a setting
-abbrev pub valueOf : Key → Settings → Setting
+abbrev pub valueOf : Key → Held → Setting
 valueOf DA s = Address (s .address)
 valueOf DU s = PressureIn (s .unit)
 valueOf C1 s = Factor (s .factor)
@@ -35,7 +34,7 @@ valueOf FC s = Filament (s .filament)
 valueOf ST s = Switch (s .transition)
 valueOf SM s = Stream (s .streaming)
 
-value-key : (key : Key) (s : Settings) → keyOf (valueOf key s) ≡ key
+value-key : (key : Key) (s : Held) → keyOf (valueOf key s) ≡ key
 value-key DA s = refl
 value-key DU s = refl
 value-key C1 s = refl
@@ -45,7 +44,7 @@ value-key FC s = refl
 value-key ST s = refl
 value-key SM s = refl
 
-value-sound : (key : Key) (s : Settings) → SoundSettings s → Sound (valueOf key s)
+value-sound : (key : Key) (s : Held) → SoundSettings s → Sound (valueOf key s)
 value-sound DA s f = f .address
 value-sound DU s f = tt
 value-sound C1 s f = f .factor
@@ -71,7 +70,7 @@ transition-form (Direct n) h = (writtenOf n, refl, written-reads n (h .canonical
 transition-form (Between a b) h =
     (writtenOf a, writtenOf b, ap (λ (l : List ℕ). 70 ∷ l) (append-assoc (writtenOf a) (84 ∷ []) (writtenOf b)), written-reads a (h .0 .canonical), written-reads b (h .1 .canonical))
 
-value-form : (key : Key) (s : Settings) → SoundSettings s → Form (readText key s) (valueOf key s)
+value-form : (key : Key) (s : Held) → SoundSettings s → Form (readText key s) (valueOf key s)
 unfolding readText
 value-form DA s f = refl
 value-form DU s f = refl
@@ -80,13 +79,13 @@ value-form CM s f = digit-form (s .control) (omega (arith, f .control))
 value-form CC s f = digit-form (s .cathode) (omega (arith, f .cathode))
 value-form FC s f = digit-form (s .filament) (omega (arith, f .filament))
 value-form ST s f = transition-form (s .transition) (f .transition)
-value-form SM s f = (listOf (s .sources), f .list, refl)
+value-form SM s f = (s .list, f .list, refl)
 
 -- what a read sends is accepted as the value that was read
-pub read-again : (key : Key) (s : Settings) → SoundSettings s → verdictOf key (readText key s) ≡ Set (valueOf key s)
+pub read-again : (key : Key) (s : Held) → SoundSettings s → verdictOf key (readText key s) ≡ Set (valueOf key s)
 read-again key s f = accepted-exactly key (readText key s) (valueOf key s) .1 (value-key key s, value-form key s f, value-sound key s f)
 
 -- and, while lines are sent, with the same list
-pub list-read-again : (s : Settings) → SoundSettings s → s .streaming ≡ true → listIn SM (readText SM s) ≡ listOf (s .sources)
+pub list-read-again : (s : Held) → SoundSettings s → s .streaming ≡ true → listIn SM (readText SM s) ≡ s .list
 unfolding listIn ifSet readText streamText verdictOf
-list-read-again s f e = rw (read-again SM s f, e) (list-again (listOf (s .sources)) (f .list))
+list-read-again s f e = rw (read-again SM s f, e) (list-again (s .list) (f .list))

@@ -5,12 +5,11 @@ use Prim.Native.Nat.{_≤_}
 use Rattle.decimal.specs.Number.{belowOf}
 use Rattle.decimal.specs.declared.Number.{Number}
 use Rattle.decimal_facts.specs.Canonical.{Canonical}
-use Rattle.sources.specs.Source.{listOf}
 use Rattle.settings.specs.Limits.{standard}
+use Rattle.settings.specs.Settings.{Held}
 use Rattle.settings.specs.declared.Transition.the-variants.{Direct, Between}
 use Rattle.settings.specs.declared.Setting.{Setting}
 use Rattle.settings.specs.declared.Setting.the-variants.{Address, PressureIn, Factor, Control, Cathode, Filament, Switch, Stream}
-use Rattle.settings.specs.declared.Settings.{Settings}
 use Rattle.forms_facts.specs.Codes.{Short}
 
 -- a number of ST, "each 1 to 20", and one of the decimal form
@@ -32,11 +31,11 @@ Sound (Switch (Between a b)) = InLimits a × InLimits b × (belowOf a b ≡ true
 Sound (Stream on) = Unit {0}
 
 -- settings within the limits, the list of sources too
-pub record SoundSettings (s : Settings) : Type 0 where
+pub record SoundSettings (s : Held) : Type 0 where
   pub address : Sound (Address (s .address))
   pub factor : Sound (Factor (s .factor))
   pub control : Sound (Control (s .control))
   pub cathode : Sound (Cathode (s .cathode))
   pub filament : Sound (Filament (s .filament))
   pub transition : Sound (Switch (s .transition))
-  pub list : Short (listOf (s .sources))
+  pub list : Short (s .list)

@@ -4,14 +4,14 @@ use mathlib.Core.List.{List, [], _∷_, _++_}
 use Prim.Native.Nat.{ℕ}
 use Rattle.buffer.specs.Byte.{digit, digits3}
 use Rattle.decimal_text.specs.Written.{writtenOf, twoDecimals}
-use Rattle.sources.specs.Source.{listOf, listText}
+use Rattle.sources.specs.Source.{listText}
 use Rattle.settings.specs.declared.PressureUnit.{PressureUnit}
 use Rattle.settings.specs.declared.PressureUnit.the-variants.{Mbar, Torr, HPa}
 use Rattle.settings.specs.declared.Transition.{Transition}
 use Rattle.settings.specs.declared.Transition.the-variants.{Direct, Between}
 use Rattle.settings.specs.declared.Key.{Key}
 use Rattle.settings.specs.declared.Key.the-variants.{DA, DU, C1, CM, CC, FC, ST, SM}
-use Rattle.settings.specs.declared.Settings.{Settings}
+use Rattle.settings.specs.Settings.{Held}
 
 -- `mbar`, `Torr`, `hPa`
 unfoldable pub unitText : PressureUnit → List ℕ
@@ -29,7 +29,7 @@ unfoldable pub streamText : Bool → List ℕ → List ℕ
 streamText on list = cond on ((52 ∷ []) ++ listText list) (48 ∷ [])
 
 -- "Pressures and ST's numbers are sent as written below, C1 and temperatures with two decimals"
-unfoldable pub readText : Key → Settings → List ℕ
+unfoldable pub readText : Key → Held → List ℕ
 readText DA s = digits3 (s .address)
 readText DU s = unitText (s .unit)
 readText C1 s = twoDecimals false (s .factor)
@@ -37,4 +37,4 @@ readText CM s = digit (s .control) ∷ []
 readText CC s = digit (s .cathode) ∷ []
 readText FC s = digit (s .filament) ∷ []
 readText ST s = transitionText (s .transition)
-readText SM s = streamText (s .streaming) (listOf (s .sources))
+readText SM s = streamText (s .streaming) (s .list)

@@ -5,7 +5,7 @@ ghost use mathlib.Core.List.{[], _∷_};
 ghost use Rattle.buffer.specs.Text.{textOf};
 ghost use Rattle.buffer.specs.Byte.{digit, digits3};
 ghost use Rattle.sources.specs.Source.{listOf};
-ghost use Rattle.settings.specs.Settings.{factory, factoryOf, bothOf, putOf, restoreOf};
+ghost use Rattle.settings.specs.Settings.{held, factory, factoryOf, bothOf, putOf, restoreOf};
 ghost use Rattle.settings.specs.Sent.{unitText, transitionText, streamText, readText};
 
 // The unit of pressure, DU.
@@ -123,7 +123,7 @@ impl Settings {
 
     // The settings as they leave the works.
     pub fn at_factory() -> Settings
-        ensures { λ r. ⌜ r ≡ factory ⌝ }
+        ensures { λ r. ⌜ held r ≡ factory ⌝ }
     {
         Settings::FACTORY
     }
@@ -149,7 +149,7 @@ impl Settings {
 
     // The settings made anew: a field that is an enum is not stored to.
     fn with_both(self, unit: PressureUnit, transition: Transition) -> Settings
-        ensures { λ r. ⌜ r ≡ bothOf self unit transition ⌝ }
+        ensures { λ r. ⌜ held r ≡ bothOf (held self) unit transition ⌝ }
     {
         let sources = self.sources;
         Settings {
@@ -167,7 +167,7 @@ impl Settings {
 
     // The settings with one of them set, and no other changed. The list counts for Stream only.
     pub fn with(self, setting: Setting, list: sources::Sources) -> Settings
-        ensures { λ r. ⌜ r ≡ putOf self setting list ⌝ }
+        ensures { λ r. ⌜ held r ≡ putOf (held self) setting (listOf list) ⌝ }
     {
         let mut s = self;
         let unit = self.unit;
@@ -205,14 +205,14 @@ impl Settings {
 
     // The settings with one of them at its factory value.
     pub fn restored(self, key: Key) -> Settings
-        ensures { λ r. ⌜ r ≡ restoreOf self key ⌝ }
+        ensures { λ r. ⌜ held r ≡ restoreOf (held self) key ⌝ }
     {
         self.with(Settings::factory_value(key), sources::Sources::NONE)
     }
 
     // The text that a read of one setting sends.
     pub fn text(self, key: Key) -> buffer::Text
-        ensures { λ r. ⌜ textOf r ≡ readText key self ⌝ }
+        ensures { λ r. ⌜ textOf r ≡ readText key (held self) ⌝ }
     {
         let unit = self.unit;
         let transition = self.transition;

@@ -1,0 +1,199 @@
+-- The values that a line shows: how long they are, and that no character 0 is in them. Assumes nothing.
+use mathlib.Core.Path.{_≡_, refl}
+use mathlib.Core.Bool.{Bool, true, false, cond, _&&_}
+use mathlib.Core.List.{List, [], _∷_, _++_}
+use Prim.Native.Nat.{ℕ, suc, _+_, _-_, _/_, _≤_}
+use native.Mathlib.Numerals.{add-one}
+use native.Mathlib.Omega.{arith}
+use borrow.Author.Tests.{ne-eqb}
+use lib.Dec.{eqb, ltb}
+use lib.ListN.{length, length-append}
+use Rattle.buffer.specs.Byte.{untilOf, digit, digits2, digits3}
+use Rattle.buffer.proofs.Rules.{each}
+use Rattle.decimal.specs.declared.Number.{Number}
+use Rattle.decimal_text.specs.Written.{signText, trimmed, pointed, digits5, exponentText, writtenOf, wholeText, twoDecimals}
+use Rattle.decimal_text.proofs.Laws.{written-le, two-le}
+use Rattle.frame_writer.specs.Error.{errorBytes}
+use Rattle.frame_writer.specs.declared.ErrorText.the-variants.{Error1}
+use Rattle.readings.specs.Reading.{pressureText, temperatureText, valueText}
+use Rattle.readings.specs.declared.Pressure.{Pressure}
+use Rattle.readings.specs.declared.Pressure.the-variants.{Measured, Under, Over, Faulty}
+use Rattle.readings.specs.declared.Temperature.{Temperature}
+use Rattle.readings.specs.declared.Temperature.the-variants.{Degrees, Failed}
+use Rattle.readings.specs.declared.Readings.{Readings}
+
+-- whatever holds of each pressure's and each temperature's text, and of `ERROR1`, holds of every value
+pub value-each : (P : List ℕ → Type 0) → ((p : Pressure) → P (pressureText p)) → ((t : Temperature) → P (temperatureText t)) → P (errorBytes Error1)
+    → (c : ℕ) (r : Readings) → P (valueText c r)
+unfolding valueText
+value-each P f g e c r =
+    each P _ _ _ (λ _. f (r .p0)) (λ _.
+    each P _ _ _ (λ _. f (r .p1)) (λ _.
+    each P _ _ _ (λ _. f (r .p2)) (λ _.
+    each P _ _ _ (λ _. f (r .p6)) (λ _.
+    each P _ _ _ (λ _. f (r .p7)) (λ _.
+    each P _ _ _ (λ _. g (r .t2)) (λ _.
+    each P _ _ _ (λ _. g (r .t6)) (λ _. e)))))))
+
+-- ---- lengths
+
+pressure-le : (p : Pressure) → length (pressureText p) ≤ 11
+unfolding pressureText errorBytes
+pressure-le (Measured n) = omega (arith, written-le n, one (n .negative))
+  where
+    one : (b : Bool) → cond b 1 0 ≤ 1
+    one true = omega arith
+    one false = omega arith
+pressure-le Under = omega arith
+pressure-le Over = omega arith
+pressure-le Faulty = omega arith
+
+temperature-le : (t : Temperature) → length (temperatureText t) ≤ 11
+unfolding temperatureText errorBytes
+temperature-le (Degrees negative h) = omega (arith, two-le negative h)
+temperature-le Failed = omega arith
+
+-- "eight rows of eleven characters"
+pub value-le : (c : ℕ) (r : Readings) → length (valueText c r) ≤ 11
+unfolding errorBytes
+value-le c r = value-each (λ (s : List ℕ). length s ≤ 11) pressure-le temperature-le (omega arith) c r
+
+written-some : (n : Number) → 1 ≤ length (writtenOf n)
+unfolding writtenOf
+written-some n =
+    each (λ (s : List ℕ). 1 ≤ length s) _ _ _ (λ _. omega arith)
+    (λ _. simp length-append (omega arith))
+
+pressure-some : (p : Pressure) → 1 ≤ length (pressureText p)
+unfolding pressureText errorBytes
+pressure-some (Measured n) = written-some n
+pressure-some Under = omega arith
+pressure-some Over = omega arith
+pressure-some Faulty = omega arith
+
+temperature-some : (t : Temperature) → 1 ≤ length (temperatureText t)
+unfolding temperatureText twoDecimals errorBytes
+temperature-some (Degrees negative h) = simp length-append (omega arith)
+temperature-some Failed = omega arith
+
+-- no value is empty
+pub value-some : (c : ℕ) (r : Readings) → 1 ≤ length (valueText c r)
+unfolding errorBytes
+value-some c r = value-each (λ (s : List ℕ). 1 ≤ length s) pressure-some temperature-some (omega arith) c r
+
+-- ---- no character 0
+
+-- no character 0 stands in a text: as many stand before the first as it has
+abbrev Clean : List ℕ → Type 0
+Clean s = untilOf 0 s ≡ length s
+
+none : Clean []
+unfolding untilOf
+none = refl
+
+clean-put : (x : ℕ) (s : List ℕ) → eqb x 0 ≡ false → Clean s → Clean (x ∷ s)
+unfolding untilOf
+clean-put x s e h = rw (e, h) (add-one (length s))
+
+clean-tail : (x : ℕ) (s : List ℕ) → Clean (x ∷ s) → (eqb x 0 ≡ false) × Clean s
+unfolding untilOf
+clean-tail x s h = go (eqb x 0) h
+  where
+    go : (b : Bool) → cond b 0 (untilOf 0 s + 1) ≡ suc (length s) → (b ≡ false) × Clean s
+    go true h = absurd (omega arith)
+    go false h = (refl, omega arith)
+
+clean-append : (s t : List ℕ) → Clean s → Clean t → Clean (s ++ t)
+clean-append [] t h k = k
+clean-append (x ∷ s) t h k = let w = clean-tail x s h in clean-put x (s ++ t) (w .0) (clean-append s t (w .1) k)
+
+clean-digit : (n : ℕ) (s : List ℕ) → Clean s → Clean (digit n ∷ s)
+clean-digit n s h = clean-put (digit n) s (ne-eqb (digit n) 0 (λ (z : digit n ≡ 0). omega arith)) h
+
+clean2 : (n : ℕ) → Clean (digits2 n)
+clean2 n = clean-digit (n / 10) (digit n ∷ []) (clean-digit n [] none)
+
+clean3 : (n : ℕ) → Clean (digits3 n)
+clean3 n = clean-digit (n / 100) (digits2 n) (clean2 n)
+
+clean5 : (m : ℕ) → Clean (digits5 m)
+clean5 m = clean-digit (m / 10000) (digit (m / 1000) ∷ digits3 m) (clean-digit (m / 1000) (digits3 m) (clean3 m))
+
+clean-trimmed : (s : List ℕ) → Clean s → Clean (trimmed s)
+unfolding trimmed
+clean-trimmed [] h = h
+clean-trimmed (x ∷ s) h = let w = clean-tail x s h in go (eqb x 48 && eqb (length (trimmed s)) 0) (clean-put x (trimmed s) (w .0) (clean-trimmed s (w .1)))
+  where
+    go : (b : Bool) → Clean (x ∷ trimmed s) → Clean (cond b [] (x ∷ trimmed s))
+    go true k = none
+    go false k = k
+
+clean-pointed : (s : List ℕ) → Clean s → Clean (pointed s)
+unfolding pointed
+clean-pointed [] h = h
+clean-pointed (x ∷ s) h = clean-put 46 (x ∷ s) refl h
+
+clean-sign : (b : Bool) → Clean (signText b)
+unfolding signText untilOf
+clean-sign true = refl
+clean-sign false = refl
+
+clean-exponent : (p : ℕ) → Clean (exponentText p)
+unfolding exponentText
+clean-exponent p = go (ltb p 9)
+  where
+    go : (b : Bool) → Clean (cond b (45 ∷ digit (9 - p) ∷ []) (digit (p - 9) ∷ []))
+    go true = clean-put 45 (digit (9 - p) ∷ []) refl (clean-digit (9 - p) [] none)
+    go false = clean-digit (p - 9) [] none
+
+written-clean : (n : Number) → Clean (writtenOf n)
+unfolding writtenOf
+written-clean n =
+    each Clean _ _ _ (λ _. one)
+    (λ _. clean-append _ (exponentText (n .place))
+    (clean-append _ (101 ∷ [])
+    (clean-append _ (pointed (trimmed (digits5 m)))
+    (clean-append (signText (n .negative)) (digit (m / 100000) ∷ []) (clean-sign (n .negative)) (clean-digit (m / 100000) [] none))
+    (clean-pointed (trimmed (digits5 m)) (clean-trimmed (digits5 m) (clean5 m))))
+    (clean-put 101 [] refl none))
+    (clean-exponent (n .place)))
+  where
+    m : ℕ
+    m = n .mantissa
+
+    one : Clean (48 ∷ [])
+    one = clean-put 48 [] refl none
+
+clean-whole : (n : ℕ) → Clean (wholeText n)
+unfolding wholeText
+clean-whole n = each Clean _ _ _ (λ _. clean-digit n [] none) (λ _. each Clean _ _ _ (λ _. clean2 n) (λ _. clean3 n))
+
+clean-signs : (zero negative : Bool) → Clean (cond zero [] (signText negative))
+clean-signs true negative = none
+clean-signs false negative = clean-sign negative
+
+two-clean : (negative : Bool) (h : ℕ) → Clean (twoDecimals negative h)
+unfolding twoDecimals
+two-clean negative h =
+    clean-append _ (digits2 h)
+    (clean-append _ (46 ∷ [])
+    (clean-append (cond (eqb h 0) [] (signText negative)) (wholeText (h / 100)) (clean-signs (eqb h 0) negative) (clean-whole (h / 100)))
+    (clean-put 46 [] refl none))
+    (clean2 h)
+
+pressure-clean : (p : Pressure) → Clean (pressureText p)
+unfolding pressureText errorBytes untilOf
+pressure-clean (Measured n) = written-clean n
+pressure-clean Under = refl
+pressure-clean Over = refl
+pressure-clean Faulty = refl
+
+temperature-clean : (t : Temperature) → Clean (temperatureText t)
+unfolding temperatureText errorBytes untilOf
+temperature-clean (Degrees negative h) = two-clean negative h
+temperature-clean Failed = refl
+
+-- no character 0 stands in a value
+pub value-clean : (c : ℕ) (r : Readings) → untilOf 0 (valueText c r) ≡ length (valueText c r)
+unfolding errorBytes untilOf
+value-clean c r = value-each Clean pressure-clean temperature-clean refl c r

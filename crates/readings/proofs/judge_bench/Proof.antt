@@ -28,7 +28,7 @@ judge-bench-spec =
     (λ c. rw (c .before .before .before .b4 .given .1) (stop _ _ _ _ (le-leb 8 _ (c .before .if2 .taken)) (c .temperature-at .ensures)))
     (λ c κs. search needs)
     (λ c. search needs)
-    (λ c. rw (c .before .before .b5 .given .1) (stop _ _ _ _ (le-leb 4 _ (c .if3 .taken)) refl))
+    (λ c. rw (c .before .before .b5 .given .1) (stop _ _ _ _ (le-leb 4 (c .before .before .b5 .given .0 .0) (omega (arith, c .if3 .taken))) refl))
     (λ c. rw (c .before .before .before .before .b .given .1, ← (c .before .normal2 .ensures)) (past _ _ _ _ (lt-leb 8 _ (c .before .before .if1 .left)) (c .pressure-of .ensures)))
     (λ c. rw (c .before .before .b2 .given .1) (c .pressure-at .ensures))
     (λ c. rw (c .before .before .b3 .given .1) (c .pressure-at2 .ensures))

@@ -1,0 +1,2 @@
+-- Laws of the rules of the text gauge.
+pub mod Laws

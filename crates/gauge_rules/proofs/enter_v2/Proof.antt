@@ -1,0 +1,30 @@
+-- `gauge_rules::enter_v2` meets its contract. Assumes nothing.
+use mathlib.Core.Path.{sym, _∙_}
+use borrow.Author.Needs.{needs}
+use Rattle.sources.specs.Source.{listOf}
+use Rattle.settings.specs.Settings.{held}
+use Rattle.gauge_rules.proofs.Laws.{restore-list}
+use Rattle.gauge_rules.specs.RulesV2.{enterV2}
+use Rattle.sources.specs.Source.{listOf}
+use Rattle.gauge_rules.proofs.enter_v2.Statement.{statement}
+use Rattle.sources.specs.Source.{listOf}
+use Rattle.gauge_rules.proofs.enter_v2.Tie as tie
+
+returns-2 : tie.Need-returns-2
+returns-2 c =
+    let a = c .before .before .before .before .args in
+    rw (c .before .before .request .given .1) (c .restored .ensures ∙ sym (restore-list (held (a .s)) _ (listOf (a .list))))
+
+pub enter-v2-spec : {M : Type 1} → statement M
+unfolding enterV2
+enter-v2-spec =
+    tie.close
+    (tie.spec
+    (λ c. search needs)
+    (λ c. search needs)
+    (λ c κs. search needs)
+    (λ c. search needs)
+    (λ c κs. search needs)
+    (λ c. rw (c .enum-told .given .1))
+    returns-2
+    (λ c. rw (c .before .before .request2 .given .1) (c .with .ensures)))

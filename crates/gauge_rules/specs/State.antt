@@ -1,0 +1,19 @@
+-- What a text gauge holds. Assumes nothing.
+use mathlib.Core.Bool.{Bool, false}
+use Rattle.settings.specs.Settings.{Held, held, factory}
+use Rattle.readings.specs.Reading.{start}
+use Rattle.readings.specs.declared.Readings.{Readings}
+use Rattle.gauge_rules.specs.declared.Gauge.{Gauge}
+
+-- "one set of settings"; the readings and FS, which "no request changes"; and the unlock, which is no setting
+pub record State : Type 0 where
+  pub settings : Held
+  pub readings : Readings
+  pub unlocked : Bool
+
+abbrev pub stateOf : Gauge → State
+stateOf g = record { settings = held (g .settings); readings = g .readings; unlocked = g .unlocked }
+
+-- "It starts with factory values and the bench's start, a text gauge's also locked."
+abbrev pub fresh : State
+fresh = record { settings = factory; readings = start; unlocked = false }

@@ -1,0 +1,361 @@
+// The text gauge's state, and the rules by which typed requests are decided and entered (document 01, "Settings and readings, V2" and
+// "V1 on the same settings").
+ghost use mathlib.Core.Path.{_≡_};
+ghost use mathlib.Core.Bool.{_&&_};
+ghost use mathlib.Core.List.{[]};
+ghost use lib.Dec.{eqb};
+ghost use Rattle.buffer.specs.Text.{textOf};
+ghost use Rattle.sources.specs.Source.{listOf};
+ghost use Rattle.settings.specs.Settings.{held};
+ghost use Rattle.requests.specs.declared.Command.{Command};
+ghost use Rattle.requests.specs.declared.RequestV2.{RequestV2};
+ghost use Rattle.gauge_rules.specs.State.{stateOf, fresh};
+ghost use Rattle.gauge_rules.specs.RulesV2.{filamentOf, changesCathode, readsFaulty, grantV2, sentText, textV2, answerCode, enterV2};
+ghost use Rattle.gauge_rules.specs.RulesV1.{digits6, unitCode, factorNumber, enterFactor, grantV1, textV1, repeats, unlocks, enterV1};
+
+// A gauge: its settings, its readings with FS, and whether it is unlocked.
+pub struct Gauge {
+    pub settings: settings::Settings,
+    pub readings: readings::Readings,
+    pub unlocked: bool,
+}
+
+impl Gauge {
+    // A gauge at factory settings and the bench's start, locked.
+    pub fn at_start() -> Gauge
+        ensures { λ r. ⌜ stateOf r ≡ fresh ⌝ }
+    {
+        Gauge {
+            settings: settings::Settings::at_factory(),
+            readings: readings::Readings::at_start(),
+            unlocked: false,
+        }
+    }
+}
+
+// ---- V2
+
+// FN, from FC and FS.
+pub fn filament_number(filament: u8, status: u8) -> u8
+    ensures { λ r. ⌜ r ≡ filamentOf filament status ⌝ }
+{
+    if buffer::is_within(filament, 1, 2) {
+        return filament;
+    }
+    if status == 1 {
+        return 2;
+    }
+    if status == 3 {
+        return 2;
+    }
+    1
+}
+
+fn is_cathode(key: settings::Key) -> bool
+    ensures { λ r. ⌜ r ≡ changesCathode (RequestV2.Restore (Command.Of key)) ⌝ }
+{
+    match key {
+        settings::Key::DA => false,
+        settings::Key::DU => false,
+        settings::Key::C1 => false,
+        settings::Key::CM => false,
+        settings::Key::CC => true,
+        settings::Key::FC => false,
+        settings::Key::ST => false,
+        settings::Key::SM => false,
+    }
+}
+
+fn restores_cathode(command: requests::Command) -> bool
+    ensures { λ r. ⌜ r ≡ changesCathode (RequestV2.Restore command) ⌝ }
+{
+    match command {
+        requests::Command::MV => false,
+        requests::Command::T2 => false,
+        requests::Command::FN => false,
+        requests::Command::FS => false,
+        requests::Command::Of(key) => is_cathode(key),
+    }
+}
+
+fn sets_cathode(setting: settings::Setting) -> bool
+    ensures { λ r. ⌜ r ≡ changesCathode (RequestV2.Set setting) ⌝ }
+{
+    match setting {
+        settings::Setting::Cathode(_) => true,
+        settings::Setting::Address(_) => false,
+        settings::Setting::PressureIn(_) => false,
+        settings::Setting::Factor(_) => false,
+        settings::Setting::Control(_) => false,
+        settings::Setting::Filament(_) => false,
+        settings::Setting::Switch(_) => false,
+        settings::Setting::Stream(_) => false,
+    }
+}
+
+// Whether a request writes or restores CC.
+fn changes_cathode(request: requests::RequestV2) -> bool
+    ensures { λ r. ⌜ r ≡ changesCathode request ⌝ }
+{
+    match request {
+        requests::RequestV2::Read(_) => false,
+        requests::RequestV2::Restore(command) => restores_cathode(command),
+        requests::RequestV2::Set(setting) => sets_cathode(setting),
+    }
+}
+
+// Whether a request breaks the rule between CC and CM.
+fn breaks_rule(control: u8, request: requests::RequestV2) -> bool
+    ensures { λ r. ⌜ r ≡ (changesCathode request && eqb control 1) ⌝ }
+{
+    if changes_cathode(request) {
+        return control == 1;
+    }
+    false
+}
+
+// Whether the sensor of a command is faulty.
+fn has_fault(r: readings::Readings, command: requests::Command) -> bool
+    ensures { λ t. ⌜ t ≡ readsFaulty r (RequestV2.Read command) ⌝ }
+{
+    let p0 = r.p0;
+    let t2 = r.t2;
+    match command {
+        requests::Command::MV => readings::is_faulty(p0),
+        requests::Command::T2 => readings::is_failed(t2),
+        requests::Command::FN => false,
+        requests::Command::FS => false,
+        requests::Command::Of(_) => false,
+    }
+}
+
+// Whether a request reads a sensor that is faulty.
+fn reads_faulty(r: readings::Readings, request: requests::RequestV2) -> bool
+    ensures { λ t. ⌜ t ≡ readsFaulty r request ⌝ }
+{
+    match request {
+        requests::RequestV2::Read(command) => has_fault(r, command),
+        requests::RequestV2::Restore(_) => false,
+        requests::RequestV2::Set(_) => false,
+    }
+}
+
+// The number of a V2 request: 12 LOGIC, 13 FAULT or 0.
+pub fn number_v2(g: Gauge, request: requests::RequestV2) -> u8
+    ensures { λ r. ⌜ r ≡ grantV2 (stateOf g) request ⌝ }
+{
+    let s = g.settings;
+    let r = g.readings;
+    if breaks_rule(s.control, request) {
+        return 12;
+    }
+    if reads_faulty(r, request) {
+        return 13;
+    }
+    0
+}
+
+// The text that a read of a command sends.
+fn sent_text(g: Gauge, command: requests::Command) -> buffer::Text
+    ensures { λ r. ⌜ textOf r ≡ sentText (stateOf g) command ⌝ }
+{
+    let s = g.settings;
+    let r = g.readings;
+    let p0 = r.p0;
+    let t2 = r.t2;
+    match command {
+        requests::Command::MV => readings::pressure_text(p0),
+        requests::Command::T2 => readings::temperature_text(t2),
+        requests::Command::FN => settings::digit_text(filament_number(s.filament, r.status)),
+        requests::Command::FS => settings::digit_text(r.status),
+        requests::Command::Of(key) => s.text(key),
+    }
+}
+
+// The data of the reply to an accepted V2 request.
+pub fn text_v2(g: Gauge, request: requests::RequestV2) -> buffer::Text
+    ensures { λ r. ⌜ textOf r ≡ textV2 (stateOf g) request ⌝ }
+{
+    match request {
+        requests::RequestV2::Read(command) => sent_text(g, command),
+        requests::RequestV2::Restore(_) => buffer::Text::EMPTY,
+        requests::RequestV2::Set(_) => buffer::Text::EMPTY,
+    }
+}
+
+// The access code of the reply to an accepted V2 request.
+pub fn answer_code(request: requests::RequestV2) -> u8
+    ensures { λ r. ⌜ r ≡ answerCode request ⌝ }
+{
+    match request {
+        requests::RequestV2::Read(_) => b'1',
+        requests::RequestV2::Set(_) => b'3',
+        requests::RequestV2::Restore(_) => b'5',
+    }
+}
+
+// The settings with a command restored, where it is a setting.
+fn restored(s: settings::Settings, command: requests::Command) -> settings::Settings
+    ensures { λ r. ⌜ held r ≡ enterV2 (held s) (RequestV2.Restore command) [] ⌝ }
+{
+    match command {
+        requests::Command::MV => s,
+        requests::Command::T2 => s,
+        requests::Command::FN => s,
+        requests::Command::FS => s,
+        requests::Command::Of(key) => s.restored(key),
+    }
+}
+
+// The settings after an accepted V2 request.
+pub fn enter_v2(
+    s: settings::Settings,
+    request: requests::RequestV2,
+    list: sources::Sources,
+) -> settings::Settings
+    ensures { λ r. ⌜ held r ≡ enterV2 (held s) request (listOf list) ⌝ }
+{
+    match request {
+        requests::RequestV2::Read(_) => s,
+        requests::RequestV2::Restore(command) => restored(s, command),
+        requests::RequestV2::Set(setting) => s.with(setting, list),
+    }
+}
+
+// ---- V1
+
+// A number as six digits.
+fn six_digits(n: u16) -> buffer::Text
+    ensures { λ r. ⌜ textOf r ≡ digits6 n ⌝ }
+{
+    let digits = [
+        (n / 1000 / 100 % 10) as u8 + 48,
+        (n / 1000 / 10 % 10) as u8 + 48,
+        (n / 1000 % 10) as u8 + 48,
+        (n / 100 % 10) as u8 + 48,
+        (n / 10 % 10) as u8 + 48,
+        (n % 10) as u8 + 48,
+    ];
+    buffer::Text::EMPTY.add(&digits)
+}
+
+// V1's number of a unit.
+fn unit_code(unit: settings::PressureUnit) -> u16
+    ensures { λ r. ⌜ r ≡ unitCode unit ⌝ }
+{
+    match unit {
+        settings::PressureUnit::Mbar => 0,
+        settings::PressureUnit::Torr => 1,
+        settings::PressureUnit::HPa => 2,
+    }
+}
+
+// The number of a `c` with six digits.
+fn factor_number(unlocked: bool, n: u32) -> u8
+    ensures { λ r. ⌜ r ≡ factorNumber unlocked n ⌝ }
+{
+    if !unlocked {
+        return 12;
+    }
+    if n < settings::Settings::FACTOR_MIN as u32 {
+        return 11;
+    }
+    if (settings::Settings::FACTOR_MAX as u32) < n {
+        return 11;
+    }
+    0
+}
+
+// The number of a V1 request: 11 RANGE, 12 LOGIC, 13 FAULT or 0.
+pub fn number_v1(g: Gauge, request: requests::RequestV1) -> u8
+    ensures { λ r. ⌜ r ≡ grantV1 (stateOf g) request ⌝ }
+{
+    let r = g.readings;
+    let p0 = r.p0;
+    match request {
+        requests::RequestV1::Measure => {
+            if readings::is_faulty(p0) {
+                return 13;
+            }
+            0
+        }
+        requests::RequestV1::SetFactor(n) => factor_number(g.unlocked, n),
+        requests::RequestV1::ReadFactor => 0,
+        requests::RequestV1::Unlock => 0,
+        requests::RequestV1::ReadUnit => 0,
+        requests::RequestV1::SetUnit(_) => 0,
+    }
+}
+
+// The data of the reply to an accepted V1 request that reads.
+pub fn text_v1(g: Gauge, request: requests::RequestV1) -> buffer::Text
+    ensures { λ r. ⌜ textOf r ≡ textV1 (stateOf g) request ⌝ }
+{
+    let s = g.settings;
+    let r = g.readings;
+    let p0 = r.p0;
+    let unit = s.unit;
+    match request {
+        requests::RequestV1::Measure => readings::measure_text(p0),
+        requests::RequestV1::ReadFactor => six_digits(s.factor),
+        requests::RequestV1::ReadUnit => six_digits(unit_code(unit)),
+        requests::RequestV1::Unlock => buffer::Text::EMPTY,
+        requests::RequestV1::SetFactor(_) => buffer::Text::EMPTY,
+        requests::RequestV1::SetUnit(_) => buffer::Text::EMPTY,
+    }
+}
+
+// Whether the reply repeats the request.
+pub fn repeats_request(request: requests::RequestV1) -> bool
+    ensures { λ r. ⌜ r ≡ repeats request ⌝ }
+{
+    match request {
+        requests::RequestV1::Measure => false,
+        requests::RequestV1::ReadFactor => false,
+        requests::RequestV1::ReadUnit => false,
+        requests::RequestV1::Unlock => true,
+        requests::RequestV1::SetFactor(_) => true,
+        requests::RequestV1::SetUnit(_) => true,
+    }
+}
+
+// Whether an accepted request unlocks.
+pub fn unlocks_gauge(request: requests::RequestV1) -> bool
+    ensures { λ r. ⌜ r ≡ unlocks request ⌝ }
+{
+    match request {
+        requests::RequestV1::Unlock => true,
+        requests::RequestV1::Measure => false,
+        requests::RequestV1::ReadFactor => false,
+        requests::RequestV1::ReadUnit => false,
+        requests::RequestV1::SetFactor(_) => false,
+        requests::RequestV1::SetUnit(_) => false,
+    }
+}
+
+// A factor entered, where it is one.
+fn enter_factor(s: settings::Settings, n: u32) -> settings::Settings
+    ensures { λ r. ⌜ held r ≡ enterFactor (held s) n ⌝ }
+{
+    if (settings::Settings::FACTOR_MAX as u32) < n {
+        return s;
+    }
+    s.with(settings::Setting::Factor(n as u16), sources::Sources::NONE)
+}
+
+// The settings after an accepted V1 request.
+pub fn enter_v1(s: settings::Settings, request: requests::RequestV1) -> settings::Settings
+    ensures { λ r. ⌜ held r ≡ enterV1 (held s) request ⌝ }
+{
+    match request {
+        requests::RequestV1::Measure => s,
+        requests::RequestV1::ReadFactor => s,
+        requests::RequestV1::ReadUnit => s,
+        requests::RequestV1::Unlock => s,
+        requests::RequestV1::SetFactor(n) => enter_factor(s, n),
+        requests::RequestV1::SetUnit(unit) => s.with(
+            settings::Setting::PressureIn(unit),
+            sources::Sources::NONE,
+        ),
+    }
+}

@@ -1,0 +1,3 @@
+-- Document 01, "Settings and readings, V2": the stream line.
+pub mod Line
+pub mod Rows

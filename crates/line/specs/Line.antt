@@ -1,0 +1,42 @@
+-- The stream line. Assumes nothing.
+use mathlib.Core.Bool.{not}
+use mathlib.Core.List.{List, [], _∷_, _++_, map}
+use Prim.Native.Nat.{ℕ}
+use lib.Dec.{ltb}
+use lib.ListN.{take}
+use Rattle.buffer.specs.First.{_⇒_, first}
+use Rattle.buffer.specs.Answer.{Answer, silent}
+use Rattle.frames.specs.Checksum.{closed}
+use Rattle.settings.specs.Limits.{standard, widthOf, longestLine}
+use Rattle.settings.specs.Settings.{Held}
+use Rattle.readings.specs.Reading.{valueText}
+use Rattle.readings.specs.declared.Readings.{Readings}
+
+-- the value of a source. None is wider than its source's width in a state that calls reach (source 0 is never negative); in another state
+-- it is cut there, so that no line is longer than 96 bytes.
+unfoldable pub valueOf : Readings → ℕ → List ℕ
+valueOf r code = take (widthOf code) (valueText code r)
+
+-- "The line is source 0, then the list in order"
+unfoldable pub valuesOf : List ℕ → Readings → List (List ℕ)
+valuesOf list r = map (valueOf r) (0 ∷ list)
+
+-- each text after a `;`
+unfoldable pub tailOf : List (List ℕ) → List ℕ
+tailOf [] = []
+tailOf (t ∷ ts) = (59 ∷ []) ++ t ++ tailOf ts
+
+-- "joined by `;`"
+unfoldable pub joined : List (List ℕ) → List ℕ
+joined [] = []
+joined (t ∷ ts) = t ++ tailOf ts
+
+-- "with less than 96 bytes lent, ROOM, checked first"; "With SM 0 there is no line (0, length 0, nothing written)"; "A frameless stream
+-- line has data, checksum and CR only."
+unfoldable pub lineAnswer : ℕ → Held → Readings → Answer
+lineAnswer room h r =
+    first
+    (ltb room (longestLine standard) ⇒ silent 1
+    ∷ not (h .streaming) ⇒ silent 0
+    ∷ [])
+    (record { number = 0; reply = closed (joined (valuesOf (h .list) r)) })

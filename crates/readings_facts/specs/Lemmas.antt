@@ -1,0 +1,3 @@
+-- What the theorems rest on.
+pub mod Good
+pub mod Others

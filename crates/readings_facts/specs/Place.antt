@@ -1,0 +1,36 @@
+-- The places of the readings: each source's, and FS. Assumes nothing.
+use Rattle.readings.specs.declared.Reading.{Reading}
+use Rattle.readings.specs.declared.Reading.the-variants.{P0, P1, P2, P6, P7, T2, T6, FS}
+use Rattle.readings.specs.declared.Readings.{Readings}
+
+pub data Place : Type 0 where
+  Source0 : Place
+  Source1 : Place
+  Source2 : Place
+  Source6 : Place
+  Source7 : Place
+  SourceT2 : Place
+  SourceT6 : Place
+  Status : Place
+
+-- the place that a reading is for
+unfoldable pub placeOf : Reading → Place
+placeOf (P0 v) = Source0
+placeOf (P1 v) = Source1
+placeOf (P2 v) = Source2
+placeOf (P6 v) = Source6
+placeOf (P7 v) = Source7
+placeOf (T2 v) = SourceT2
+placeOf (T6 v) = SourceT6
+placeOf (FS v) = Status
+
+-- what stands at a place
+unfoldable pub readingAt : Place → Readings → Reading
+readingAt Source0 r = P0 (r .p0)
+readingAt Source1 r = P1 (r .p1)
+readingAt Source2 r = P2 (r .p2)
+readingAt Source6 r = P6 (r .p6)
+readingAt Source7 r = P7 (r .p7)
+readingAt SourceT2 r = T2 (r .t2)
+readingAt SourceT6 r = T6 (r .t6)
+readingAt Status r = FS (r .status)

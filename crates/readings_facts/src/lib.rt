@@ -1,0 +1,1 @@
+// Document 01, "Settings and readings, V2": theorems on the readings and the bench only, in specs/.

@@ -1,0 +1,31 @@
+-- `requests::read_v1` meets its contract. Assumes nothing.
+use mathlib.Core.Path.{sym, _∙_}
+use borrow.Author.Needs.{needs}
+use Rattle.buffer.specs.First.{pick}
+use Rattle.buffer.proofs.Rules.{rules}
+use Rattle.requests.specs.AskV1.{askV1}
+use Rattle.requests.proofs.read_v1.Statement.{statement}
+use Rattle.requests.proofs.read_v1.Tie as tie
+
+pub read-v1-spec : {M : Type 1} → statement M
+unfolding askV1 pick
+read-v1-spec =
+    tie.close
+    (tie.spec
+    (λ c κs. search needs)
+    (λ c κs. search needs)
+    (λ c κs. search needs)
+    (λ c κs. search needs)
+    (λ c. rw (c .before .before .before .match .keys3, sym (c .before .before .has-six-digits .ensures) ∙ c .before .if1 .taken, c .numeral-of .ensures))
+    (λ c κs. search needs)
+    (λ c κs. search needs)
+    (λ c κs. search needs)
+    (λ c κs. search needs)
+    (λ c κs. search needs)
+    (λ c. rw (c .before .before .before .before .match .keys5, sym (c .before .before .before .has-six-digits2 .ensures) ∙ c .before .before .if2 .taken, ← (c .before .numeral-of2 .ensures)) (c .unit-at .ensures))
+    (λ c. rw (c .before .match .keys1) (c .bare .ensures))
+    (λ c. rw (c .before .match .keys2) (c .with-one .ensures))
+    (λ c. rw (c .before .before .before .match .keys3, sym (c .before .before .has-six-digits .ensures) ∙ c .before .if1 .left) (c .with-one2 .ensures))
+    (λ c. rw (c .before .match .keys4) (c .bare2 .ensures))
+    (λ c. rw (c .before .before .match .keys5, sym (c .before .has-six-digits2 .ensures) ∙ c .if2 .left))
+    (λ c. search rules depth 24))

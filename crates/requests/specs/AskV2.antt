@@ -1,0 +1,75 @@
+-- What a V2 frame asks: a typed request, or the first refusal that applies whatever the state, 7 to 12. Assumes nothing.
+use mathlib.Core.Path.{_≡_}
+use mathlib.Core.Bool.{not}
+use mathlib.Core.List.{List, [], _∷_}
+use Prim.Native.Nat.{ℕ}
+use lib.Dec.{eqb}
+use lib.ListN.{length}
+use Rattle.buffer.specs.First.{_⇒_, first}
+use Rattle.frames.specs.declared.HeadV2.{HeadV2}
+use Rattle.sources.specs.Source.{listOf}
+use Rattle.forms.specs.Judged.{verdictOf, listIn}
+use Rattle.forms.specs.declared.Verdict.{Verdict}
+use Rattle.forms.specs.declared.Verdict.the-variants as verdict
+use Rattle.requests.specs.Command.{commandOf, writeCode, restoreCode, isAccess, lacksAccess}
+use Rattle.requests.specs.declared.Command.{Command}
+use Rattle.requests.specs.declared.Command.the-variants.{MV, T2, FN, FS, Of}
+use Rattle.requests.specs.declared.Named.{Named}
+use Rattle.requests.specs.declared.Named.the-variants.{Known, Unknown}
+use Rattle.requests.specs.declared.RequestV2.the-variants.{Read, Restore, Set}
+use Rattle.requests.specs.declared.AskV2.{AskV2}
+use Rattle.requests.specs.declared.AskV2.the-variants.{For, Refused}
+use Rattle.requests.specs.declared.AskedV2.{AskedV2}
+
+-- the data of a write, as they are judged
+unfoldable pub setOf : Verdict → AskV2
+setOf (verdict.Set x) = For (Set x)
+setOf (verdict.Refused k) = Refused k
+
+unfoldable pub writeOf : Command → List ℕ → AskV2
+writeOf MV s = Refused 9
+writeOf T2 s = Refused 9
+writeOf FN s = Refused 9
+writeOf FS s = Refused 9
+writeOf (Of key) s = setOf (verdictOf key s)
+
+-- a known command, with this access code and these data; "data with a read or default" is SYNTAX
+unfoldable pub askKnown : ℕ → Command → List ℕ → AskV2
+askKnown access c s =
+    first
+    (lacksAccess access c ⇒ Refused 9
+    ∷ eqb access writeCode ⇒ writeOf c s
+    ∷ not (eqb (length s) 0) ⇒ Refused 10
+    ∷ eqb access restoreCode ⇒ For (Restore c)
+    ∷ [])
+    (For (Read c))
+
+unfoldable pub askNamed : ℕ → Named → List ℕ → AskV2
+askNamed access Unknown s = Refused 8
+askNamed access (Known c) s = askKnown access c s
+
+unfoldable pub askV2 : HeadV2 → List ℕ → AskV2
+askV2 h s = first (not (isAccess (h .access)) ⇒ Refused 7 ∷ []) (askNamed (h .access) (commandOf (h .first) (h .second)) s)
+
+-- the sources that a write of SM lists; none beside any other request
+unfoldable pub writeList : Command → List ℕ → List ℕ
+writeList MV s = []
+writeList T2 s = []
+writeList FN s = []
+writeList FS s = []
+writeList (Of key) s = listIn key s
+
+unfoldable pub namedList : ℕ → Named → List ℕ → List ℕ
+namedList access Unknown s = []
+namedList access (Known c) s = first (lacksAccess access c ⇒ [] ∷ eqb access writeCode ⇒ writeList c s ∷ []) []
+
+unfoldable pub askList : HeadV2 → List ℕ → List ℕ
+askList h s = first (not (isAccess (h .access)) ⇒ [] ∷ []) (namedList (h .access) (commandOf (h .first) (h .second)) s)
+
+pub record Writes (c : Command) (s : List ℕ) (r : AskedV2) : Type 0 where
+  pub ask : r .ask ≡ writeOf c s
+  pub list : listOf (r .sources) ≡ writeList c s
+
+pub record AsksV2 (h : HeadV2) (s : List ℕ) (r : AskedV2) : Type 0 where
+  pub ask : r .ask ≡ askV2 h s
+  pub list : listOf (r .sources) ≡ askList h s

@@ -1,0 +1,78 @@
+-- The commands of V2 and the column "Access". Assumes nothing.
+use mathlib.Core.Bool.{Bool, true, false, not, _||_}
+use mathlib.Core.List.{[], _∷_}
+use Prim.Native.Nat.{ℕ, _+_, _*_}
+use lib.Dec.{eqb}
+use Rattle.buffer.specs.First.{_⇒_, first}
+use Rattle.settings.specs.declared.Key.the-variants.{DA, DU, C1, CM, CC, FC, ST, SM}
+use Rattle.requests.specs.declared.Command.{Command}
+use Rattle.requests.specs.declared.Command.the-variants.{MV, T2, FN, FS, Of}
+use Rattle.requests.specs.declared.Named.{Named}
+use Rattle.requests.specs.declared.Named.the-variants.{Known, Unknown}
+
+-- two bytes as one number
+abbrev pub two : ℕ → ℕ → ℕ
+two a b = a * 256 + b
+
+-- the column "CMD". "Commands not named here are unknown."
+unfoldable pub commandOf : ℕ → ℕ → Named
+commandOf a b =
+    first
+    (eqb (two a b) (two 77 86) ⇒ Known MV
+    ∷ eqb (two a b) (two 84 50) ⇒ Known T2
+    ∷ eqb (two a b) (two 70 78) ⇒ Known FN
+    ∷ eqb (two a b) (two 70 83) ⇒ Known FS
+    ∷ eqb (two a b) (two 68 65) ⇒ Known (Of DA)
+    ∷ eqb (two a b) (two 68 85) ⇒ Known (Of DU)
+    ∷ eqb (two a b) (two 67 49) ⇒ Known (Of C1)
+    ∷ eqb (two a b) (two 67 77) ⇒ Known (Of CM)
+    ∷ eqb (two a b) (two 67 67) ⇒ Known (Of CC)
+    ∷ eqb (two a b) (two 70 67) ⇒ Known (Of FC)
+    ∷ eqb (two a b) (two 83 84) ⇒ Known (Of ST)
+    ∷ eqb (two a b) (two 83 77) ⇒ Known (Of SM)
+    ∷ [])
+    Unknown
+
+-- "read 0", "write 2", "factory default 4", as characters
+abbrev pub readCode : ℕ
+readCode = 48
+
+abbrev pub writeCode : ℕ
+writeCode = 50
+
+abbrev pub restoreCode : ℕ
+restoreCode = 52
+
+unfoldable pub isAccess : ℕ → Bool
+isAccess a = eqb a readCode || eqb a writeCode || eqb a restoreCode
+
+-- the column "Access": "read" for MV, T2, FN and FS, "read, write" for SM, "all three" for the others
+unfoldable pub canWrite : Command → Bool
+canWrite MV = false
+canWrite T2 = false
+canWrite FN = false
+canWrite FS = false
+canWrite (Of key) = true
+
+unfoldable pub canRestore : Command → Bool
+canRestore MV = false
+canRestore T2 = false
+canRestore FN = false
+canRestore FS = false
+canRestore (Of DA) = true
+canRestore (Of DU) = true
+canRestore (Of C1) = true
+canRestore (Of CM) = true
+canRestore (Of CC) = true
+canRestore (Of FC) = true
+canRestore (Of ST) = true
+canRestore (Of SM) = false
+
+-- 9 ACCESS: "command lacks this access"
+unfoldable pub lacksAccess : ℕ → Command → Bool
+lacksAccess access c =
+    first
+    (eqb access writeCode ⇒ not (canWrite c)
+    ∷ eqb access restoreCode ⇒ not (canRestore c)
+    ∷ [])
+    false

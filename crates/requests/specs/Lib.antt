@@ -1,0 +1,4 @@
+-- Document 01, "Settings and readings, V2" and "V1 on the same settings": what a frame asks.
+pub mod Command
+pub mod AskV2
+pub mod AskV1

@@ -1,0 +1,193 @@
+-- Document 01, the column "CMD", and worked cases of what a frame asks, their answers taken from the paper. Assumes nothing.
+use mathlib.Core.Path.{_≡_, refl}
+use mathlib.Core.Bool.{true, false}
+use mathlib.Core.List.{List, [], _∷_, map}
+use Prim.Native.String.{String}
+use Prim.Native.Nat.{ℕ}
+use Rattle.buffer.specs.First.{pick}
+use Rattle.buffer.specs.Byte.{at, within, every, sameText, untilOf, numeralFrom}
+use Rattle.buffer.specs.Quoted.{bytes}
+use Rattle.decimal.specs.Exact.{units, sizeOf, normalOf}
+use Rattle.decimal.specs.Form.{leading, startsWith, powerOf, exponentOf, fractionOf, unsignedOf, scanOf, answerOf, numberOf}
+use Rattle.decimal.specs.Number.{plus, minus, belowOf, countedOf, hundredthsOf}
+use Rattle.sources.specs.Source.{sourceText, isSource, findSource, sourceOf}
+use Rattle.sources.specs.Entries.{onto, parts, sourceTexts, entriesOf, opens, entriesNumber, entriesList}
+use Rattle.settings.specs.Limits.{positive}
+use Rattle.settings.specs.Sent.{unitText}
+use Rattle.settings.specs.declared.PressureUnit.the-variants.{Mbar, Torr, HPa}
+use Rattle.settings.specs.declared.Transition.the-variants.{Between}
+use Rattle.settings.specs.declared.Key.the-variants.{DA, DU, C1, CM, CC, FC, ST, SM}
+use Rattle.settings.specs.declared.Setting.the-variants.{Address, PressureIn, Factor, Control, Switch, Stream}
+use Rattle.forms.specs.Forms.{addressData, unitData, factorIn, factorOf, digitData, digitOf, limitedOf, directOf, betweenOf, transitionData, idleList, knownMode, streamOf, streamData}
+use Rattle.forms.specs.Judged.{verdictOf, ifSet, listIn}
+use Rattle.frames.specs.declared.HeadV2.{HeadV2}
+use Rattle.requests.specs.Command.{commandOf, isAccess, canWrite, canRestore, lacksAccess}
+use Rattle.requests.specs.AskV2.{setOf, writeOf, askKnown, askNamed, askV2, writeList, namedList, askList}
+use Rattle.requests.specs.AskV1.{sixDigits, bareOf, digitOne, oneOf, unitAt, askV1}
+use Rattle.requests.specs.declared.Command.{Command}
+use Rattle.requests.specs.declared.Command.the-variants.{MV, T2, FN, FS, Of}
+use Rattle.requests.specs.declared.Named.{Named}
+use Rattle.requests.specs.declared.Named.the-variants.{Known}
+use Rattle.requests.specs.declared.RequestV2.the-variants.{Read, Restore, Set}
+use Rattle.requests.specs.declared.AskV2.{AskV2}
+use Rattle.requests.specs.declared.AskV2.the-variants.{For, Refused}
+use Rattle.requests.specs.declared.RequestV1.the-variants.{Measure, ReadFactor, Unlock, SetFactor, ReadUnit, SetUnit}
+use Rattle.requests.specs.declared.AskV1.{AskV1}
+use Rattle.requests.specs.declared.AskV1.the-variants.{Asks, Denied}
+
+-- ---- the commands by their texts
+
+pub record Row : Type 0 where
+  pub text : List ℕ
+  pub command : Command
+
+abbrev pub row : String → Command → Row
+row text command = record { text = bytes text; command = command }
+
+abbrev pub table : List Row
+table =
+    row "MV" MV
+    ∷ row "T2" T2
+    ∷ row "DA" (Of DA)
+    ∷ row "DU" (Of DU)
+    ∷ row "C1" (Of C1)
+    ∷ row "CM" (Of CM)
+    ∷ row "CC" (Of CC)
+    ∷ row "FC" (Of FC)
+    ∷ row "FN" FN
+    ∷ row "FS" FS
+    ∷ row "ST" (Of ST)
+    ∷ row "SM" (Of SM)
+    ∷ []
+
+abbrev pub named : Row → Named
+named r = commandOf (at (r .text) 0) (at (r .text) 1)
+
+abbrev pub known : Row → Named
+known r = Known (r .command)
+
+-- each text names its command
+pub all-named : map named table ≡ map known table
+unfolding bytes commandOf pick
+all-named = refl
+
+-- ---- V2: access code and command, the data, and what is asked
+
+pub record CaseV2 : Type 0 where
+  pub head : List ℕ
+  pub text : List ℕ
+  pub ask : AskV2
+  -- the sources beside it
+  pub list : List ℕ
+
+abbrev pub v2 : String → String → AskV2 → CaseV2
+v2 head text ask = record { head = bytes head; text = bytes text; ask = ask; list = [] }
+
+abbrev pub stream : String → AskV2 → List ℕ → CaseV2
+stream text ask list = record { head = bytes "2SM"; text = bytes text; ask = ask; list = list }
+
+abbrev pub casesV2 : List CaseV2
+casesV2 =
+    v2 "0MV" "" (For (Read MV))
+    ∷ v2 "0FN" "" (For (Read FN))
+    ∷ v2 "0CC" "" (For (Read (Of CC)))
+    ∷ v2 "4DA" "" (For (Restore (Of DA)))
+    ∷ v2 "4CC" "" (For (Restore (Of CC)))
+    ∷ v2 "2DA" "005" (For (Set (Address 5)))
+    ∷ v2 "2DU" "Torr" (For (Set (PressureIn Torr)))
+    ∷ v2 "2C1" "2.22" (For (Set (Factor 222)))
+    ∷ v2 "2C1" "80e-1" (For (Set (Factor 800)))
+    ∷ v2 "2CM" "0" (For (Set (Control 0)))
+    ∷ v2 "2ST" "F5T15" (For (Set (Switch (Between (positive 500000 9) (positive 150000 10)))))
+    ∷ stream "4" (For (Set (Stream true))) []
+    ∷ stream "4D7DT2" (For (Set (Stream true))) (7 ∷ 8 ∷ [])
+    ∷ stream "0" (For (Set (Stream false))) []
+    -- CODE before NO_DEF, NO_DEF before ACCESS and SYNTAX, ACCESS before SYNTAX
+    ∷ v2 "1XX" "" (Refused 7)
+    ∷ v2 "3MV" "" (Refused 7)
+    ∷ v2 "2MR" "12" (Refused 8)
+    ∷ v2 "0T6" "" (Refused 8)
+    ∷ v2 "0mv" "" (Refused 8)
+    ∷ v2 "2MV" "" (Refused 9)
+    ∷ v2 "4FS" "" (Refused 9)
+    ∷ v2 "4SM" "" (Refused 9)
+    ∷ v2 "4SM" "4" (Refused 9)
+    -- data with a default and with a read, none with a write
+    ∷ v2 "4CC" "1" (Refused 10)
+    ∷ v2 "0MV" "1" (Refused 10)
+    ∷ v2 "2CC" "" (Refused 10)
+    -- the data of a write
+    ∷ v2 "2CC" "2" (Refused 11)
+    ∷ v2 "2CC" "00" (Refused 10)
+    ∷ v2 "2DA" "000" (Refused 11)
+    ∷ v2 "2DA" "17" (Refused 10)
+    ∷ v2 "2C1" "0.205" (Refused 11)
+    ∷ v2 "2ST" "F5T5" (Refused 12)
+    ∷ v2 "2ST" "F25T21" (Refused 11)
+    ∷ v2 "2ST" "F25T" (Refused 10)
+    ∷ stream "4D7D7D7D7D7D7D7D7" (Refused 11) []
+    ∷ stream "0D7" (Refused 10) []
+    ∷ []
+
+-- what a definition gives for a case, and what the paper gives
+pub record Given : Type 0 where
+  pub ask : AskV2
+  pub list : List ℕ
+
+abbrev pub askedV2 : CaseV2 → Given
+askedV2 c =
+    let h : HeadV2 = record { address = 1; access = at (c .head) 0; first = at (c .head) 1; second = at (c .head) 2 } in
+    record { ask = askV2 h (c .text); list = askList h (c .text) }
+
+abbrev pub paperV2 : CaseV2 → Given
+paperV2 c = record { ask = c .ask; list = c .list }
+
+pub all-v2 : map askedV2 casesV2 ≡ map paperV2 casesV2
+unfolding bytes askV2 askNamed askKnown setOf writeOf askList namedList writeList commandOf isAccess canWrite canRestore lacksAccess verdictOf ifSet listIn addressData unitData factorIn factorOf digitData digitOf limitedOf directOf betweenOf transitionData idleList knownMode streamOf streamData numberOf answerOf scanOf unsignedOf fractionOf exponentOf powerOf leading startsWith normalOf sizeOf units plus minus belowOf countedOf hundredthsOf sourceText isSource findSource sourceOf onto parts sourceTexts entriesOf opens entriesNumber entriesList unitText within every sameText untilOf numeralFrom pick
+all-v2 = refl
+
+-- ---- V1: letter, data, and what is asked
+
+pub record CaseV1 : Type 0 where
+  pub letter : List ℕ
+  pub text : List ℕ
+  pub ask : AskV1
+
+abbrev pub v1 : String → String → AskV1 → CaseV1
+v1 letter text ask = record { letter = bytes letter; text = bytes text; ask = ask }
+
+abbrev pub casesV1 : List CaseV1
+casesV1 =
+    v1 "M" "" (Asks Measure)
+    ∷ v1 "C" "1" (Asks ReadFactor)
+    ∷ v1 "c" "1" (Asks Unlock)
+    ∷ v1 "c" "000200" (Asks (SetFactor 200))
+    -- LOGIC or RANGE, as the gauge is locked or not
+    ∷ v1 "c" "000900" (Asks (SetFactor 900))
+    ∷ v1 "U" "" (Asks ReadUnit)
+    ∷ v1 "u" "000000" (Asks (SetUnit Mbar))
+    ∷ v1 "u" "000001" (Asks (SetUnit Torr))
+    ∷ v1 "u" "000002" (Asks (SetUnit HPa))
+    ∷ v1 "T" "" (Denied 8)
+    ∷ v1 "m" "" (Denied 8)
+    ∷ v1 "M" "1" (Denied 10)
+    ∷ v1 "U" "1" (Denied 10)
+    ∷ v1 "C" "" (Denied 10)
+    ∷ v1 "C" "2" (Denied 11)
+    ∷ v1 "C" "000100" (Denied 10)
+    ∷ v1 "c" "2" (Denied 11)
+    ∷ v1 "c" "0100" (Denied 10)
+    ∷ v1 "c" "00010x" (Denied 10)
+    ∷ v1 "u" "000003" (Denied 11)
+    ∷ v1 "u" "1" (Denied 10)
+    ∷ []
+
+abbrev pub askedV1 : CaseV1 → AskV1
+askedV1 c = askV1 (at (c .letter) 0) (c .text)
+
+abbrev pub paperV1 : CaseV1 → AskV1
+paperV1 c = c .ask
+
+pub all-v1 : map askedV1 casesV1 ≡ map paperV1 casesV1
+unfolding bytes askV1 sixDigits bareOf digitOne oneOf unitAt digitData within every numeralFrom pick
+all-v1 = refl

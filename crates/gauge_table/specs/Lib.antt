@@ -1,6 +1,8 @@
 -- Document 01, "Answer numbers of the text gauge": the table, and that typed requests are decided by it.
 pub mod Asked
 pub mod Table
+pub mod Reply
+pub mod After
 pub mod DecidedV2
 pub mod DecidedV1
 pub mod Numbers

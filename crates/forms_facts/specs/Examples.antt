@@ -5,7 +5,6 @@ use mathlib.Core.List.{List, [], _∷_}
 use Prim.Native.Nat.{ℕ}
 use Prim.Native.String.{String}
 use lib.Dec.{eqb}
-use lib.ListN.{length}
 use Rattle.buffer.specs.First.{pick}
 use Rattle.buffer.specs.Byte.{within, every, sameText, untilOf, numeralFrom}
 use Rattle.decimal.specs.Exact.{units, sizeOf, normalOf}

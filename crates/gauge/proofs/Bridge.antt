@@ -1,21 +1,19 @@
 -- From a typed request, decided, to the table: the same answer and the same state afterwards. Assumes nothing.
-use mathlib.Core.Path.{_≡_, refl, sym, ap, _∙_}
-use mathlib.Core.Bool.{Bool, true, false, cond, not, _&&_, and-false, true≢false}
-use mathlib.Core.List.{List, [], _∷_}
+use mathlib.Core.Path.{_≡_, refl, sym, _∙_}
+use mathlib.Core.Bool.{Bool, true, false, cond, _&&_, and-false, true≢false}
+use mathlib.Core.List.{List}
 use mathlib.Core.Logic.{_⊎_, inl, inr}
 use Prim.Native.Nat.{ℕ, _≤_}
 use native.Mathlib.Omega.{arith}
 use borrow.Author.Tests.{ne-eqb, eqb-false}
-use lib.Dec.{eqb, ltb}
-use lib.ListN.{length}
+use lib.Dec.{eqb}
 use Rattle.buffer.specs.First.{pick}
-use Rattle.buffer.specs.Byte.{at, within, isDigit, every}
-use Rattle.buffer.specs.Answer.{Answer, silent, Sent}
-use Rattle.buffer.proofs.Laws.{within-in, within-true, within-above, within-below, refuses}
+use Rattle.buffer.specs.Byte.{at, within}
+use Rattle.buffer.specs.Answer.{Answer, silent}
+use Rattle.buffer.proofs.Laws.{within-in, within-true, within-above, within-below}
 use Rattle.buffer.proofs.Rules.{each}
-use Rattle.frames.specs.Frame.{isLetter, dataFrom, addressOf, wrongAddress, wrongLength, headV1, headV2}
+use Rattle.frames.specs.Frame.{isLetter, dataFrom, addressOf, wrongAddress, headV1, headV2}
 use Rattle.frames.specs.declared.HeadV2.{HeadV2}
-use Rattle.settings.specs.declared.Key.{Key}
 use Rattle.forms.specs.Judged.{verdictOf}
 use Rattle.forms.specs.Forms.{digitData}
 use Rattle.forms.specs.declared.Digit.{Digit}
@@ -37,16 +35,15 @@ use Rattle.requests.specs.declared.AskV2.the-variants.{For, Refused}
 use Rattle.requests.specs.declared.AskV1.{AskV1}
 use Rattle.requests.specs.declared.AskV1.the-variants.{Asks, Denied}
 use Rattle.requests_facts.specs.Data.{refused-data}
-use Rattle.gauge_rules.specs.State.{State, stateOf}
+use Rattle.gauge_rules.specs.State.{State}
 use Rattle.gauge_rules.specs.RulesV2.{grantV2}
 use Rattle.gauge_rules.specs.RulesV1.{factorNumber, grantV1}
-use Rattle.gauge_table.specs.Asked.{isV1, askedV2, askedV1}
-use Rattle.gauge_table.specs.Table.{answerRoom, otherAddress, numberOf}
+use Rattle.gauge_table.specs.Asked.{askedV2, askedV1}
+use Rattle.gauge_table.specs.Table.{numberOf}
 use Rattle.gauge_table.specs.Reply.{errorV2, acceptedV2, acceptedV1, replyOf}
 use Rattle.gauge_table.specs.After.{answerOf, enteredV2, enteredV1, asksUnlock, afterwards, nextOf}
 use Rattle.gauge_table.specs.DecidedV2.{decidedV2}
 use Rattle.gauge_table.specs.DecidedV1.{decidedV1}
-use Rattle.gauge_table.specs.Numbers.{Framed, number-5, number-6, number-v1, number-v2}
 use Rattle.gauge.specs.Inner.{answerV2, nextV2, answerV1, nextV1}
 
 -- ---- what is not silent: 0, or 6 and above

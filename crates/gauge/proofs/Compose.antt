@@ -1,7 +1,7 @@
 -- The parts of an answer, put together. Assumes nothing.
-use mathlib.Core.Path.{_≡_, refl, sym, ap, _∙_}
+use mathlib.Core.Path.{_≡_, sym, ap, _∙_}
 use mathlib.Core.Bool.{Bool, true, false, not, true≢false, false≢true}
-use mathlib.Core.List.{List, []}
+use mathlib.Core.List.{List}
 use Prim.Native.Nat.{ℕ, _≤_}
 use native.Mathlib.Omega.{arith}
 use borrow.Author.Tests.{ne-eqb, not-false}
@@ -9,7 +9,7 @@ use lib.Dec.{eqb, ltb}
 use lib.ListN.{length}
 use Rattle.buffer.specs.First.{pick}
 use Rattle.buffer.specs.Byte.{at, within, isDigit}
-use Rattle.buffer.specs.Answer.{Answer, silent, over, Sent}
+use Rattle.buffer.specs.Answer.{Sent}
 use Rattle.buffer.specs.declared.Written.{Written}
 use Rattle.buffer.proofs.Laws.{refuses, within-true, within-below}
 use Rattle.buffer.proofs.Rules.{each, not-eqb, not-neqb}
@@ -34,8 +34,7 @@ use Rattle.gauge_rules.specs.RulesV1.{grantV1, textV1, repeats, unlocks, enterV
 use Rattle.gauge_rules.specs.declared.Gauge.{Gauge}
 use Rattle.gauge_table.specs.Table.{answerRoom, otherAddress, numberOf}
 use Rattle.gauge_table.specs.Reply.{errorV2, errorV1, answerHead}
-use Rattle.gauge_table.specs.After.{answerOf, nextOf}
-use Rattle.gauge_table.specs.Numbers.{Framed, Tells, tells, number-5, number-6, number-v1, number-v2}
+use Rattle.gauge_table.specs.Numbers.{Framed, Tells, tells, number-6, number-v1, number-v2}
 use Rattle.gauge.specs.Answer.{Answers}
 use Rattle.gauge.specs.Inner.{Fits, answerV2, nextV2, answerV1, nextV1, AnswersV2, AnswersV1}
 use Rattle.gauge.specs.declared.Answered.{Answered}

@@ -1,20 +1,18 @@
 -- Replies that fit are written whole. Assumes nothing.
-use mathlib.Core.Path.{_≡_, refl, sym, ap}
-use mathlib.Core.Bool.{Bool, true, false, not}
+use mathlib.Core.Path.{_≡_, refl, ap}
+use mathlib.Core.Bool.{not}
 use mathlib.Core.List.{List, [], _∷_, _++_}
-use Prim.Native.Nat.{ℕ, _+_, _/_, _≤_}
+use Prim.Native.Nat.{ℕ, _+_, _≤_}
 use native.Mathlib.Omega.{arith}
-use lib.Dec.{eqb, leb}
 use lib.ListN.{length}
-use Rattle.buffer.specs.First.{pick}
-use Rattle.buffer.specs.Byte.{digits2, digits3, within}
-use Rattle.buffer.specs.Answer.{Answer, Sent}
+use Rattle.buffer.specs.Byte.{digits2, digits3}
+use Rattle.buffer.specs.Answer.{Sent}
 use Rattle.buffer.specs.declared.Written.{Written}
 use Rattle.buffer.proofs.Rules.{each}
 use Rattle.frames.specs.declared.HeadV1.{HeadV1}
 use Rattle.frames.specs.declared.HeadV2.{HeadV2}
 use Rattle.frame_writer.specs.Written.{frameV1, frameV2, writtenV1, writtenV2}
-use Rattle.frame_writer.specs.Error.{errorOf, errorBytes, errorDataV1}
+use Rattle.frame_writer.specs.Error.{errorBytes, errorDataV1}
 use Rattle.frame_writer.specs.declared.ErrorText.{ErrorText}
 use Rattle.frame_writer.specs.declared.ErrorText.the-variants.{Length, Logic, NoDef, Syntax, Range, Error1}
 use Rattle.frame_writer.proofs.Laws.{length-closed, written}

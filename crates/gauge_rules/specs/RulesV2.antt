@@ -1,6 +1,6 @@
 -- Document 01, "Settings and readings, V2": the rules that read the state, the replies' data, and what an accepted request enters. Assumes
 -- nothing.
-use mathlib.Core.Bool.{Bool, true, false, _&&_, _||_}
+use mathlib.Core.Bool.{Bool, true, false, _&&_}
 use mathlib.Core.List.{List, [], _∷_}
 use Prim.Native.Nat.{ℕ}
 use lib.Dec.{eqb}

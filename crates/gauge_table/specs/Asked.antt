@@ -10,10 +10,9 @@ use Rattle.frames.specs.Frame.{isLetter, dataFrom, headV2}
 use Rattle.settings.specs.Limits.{standard}
 use Rattle.readings.specs.Reading.{isFaulty}
 use Rattle.forms.specs.Judged.{verdictOf, verdictNumber}
-use Rattle.requests.specs.Command.{commandOf, writeCode, isAccess, lacksAccess}
+use Rattle.requests.specs.Command.{writeCode, isAccess, lacksAccess}
 use Rattle.requests.specs.AskV2.{askV2}
 use Rattle.requests.specs.AskV1.{sixDigits, askV1}
-use Rattle.requests.specs.declared.Command.{Command}
 use Rattle.requests.specs.declared.Command.the-variants.{MV, T2, FN, FS, Of}
 use Rattle.requests.specs.declared.Named.{Named}
 use Rattle.requests.specs.declared.Named.the-variants.{Known, Unknown}

@@ -8,14 +8,13 @@ use borrow.Author.Tests.{le-ltb, le-leb, leb-true, ne-eqb, eqb-true}
 use lib.Dec.{eqb, ltb, leb}
 use lib.ListN.{length, take}
 use Rattle.buffer.specs.First.{_⇒_, first, pick}
-use Rattle.buffer.specs.Byte.{at, within, isDigit, numeral}
+use Rattle.buffer.specs.Byte.{at, isDigit, numeral}
 use Rattle.buffer.proofs.Laws.{within-true}
-use Rattle.readings.specs.Reading.{isFaulty}
 use Rattle.forms.specs.Forms.{digitData}
 use Rattle.requests.specs.AskV1.{sixDigits, bareOf, digitOne, oneOf, unitAt, askV1}
 use Rattle.forms.specs.declared.Digit.the-variants.{Is, Isnt}
 use Rattle.requests.specs.declared.RequestV1.{RequestV1}
-use Rattle.requests.specs.declared.RequestV1.the-variants.{Measure, ReadFactor, Unlock, SetFactor, ReadUnit, SetUnit}
+use Rattle.requests.specs.declared.RequestV1.the-variants.{Measure, ReadFactor, Unlock, ReadUnit}
 use Rattle.requests.specs.declared.AskV1.{AskV1}
 use Rattle.requests.specs.declared.AskV1.the-variants.{Asks, Denied}
 use Rattle.gauge_rules.specs.State.{State}

@@ -4,7 +4,7 @@ ghost use mathlib.Core.Path.{_≡_};
 ghost use mathlib.Core.List.{[]};
 ghost use Rattle.sources.specs.Source.{listOf};
 ghost use Rattle.requests.specs.Command.{commandOf, isAccess, canWrite, canRestore, lacksAccess};
-ghost use Rattle.requests.specs.AskV2.{setOf, writeOf, AsksV2, Writes};
+ghost use Rattle.requests.specs.AskV2.{setOf, AsksV2, Writes};
 ghost use Rattle.requests.specs.AskV1.{sixDigits, bareOf, oneOf, unitAt, askV1};
 ghost use Rattle.requests.specs.declared.AskV2.{AskV2};
 

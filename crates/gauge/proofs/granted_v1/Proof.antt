@@ -1,6 +1,5 @@
 -- `gauge::granted_v1` meets its contract. Assumes nothing.
 use mathlib.Core.Path.{sym, _∙_}
-use native.Mathlib.Omega.{arith}
 use borrow.Author.Needs.{needs}
 use Rattle.buffer.specs.First.{pick}
 use Rattle.gauge_rules.specs.State.{stateOf}

@@ -1,5 +1,4 @@
 -- `gauge::refuse_v1` meets its contract. Assumes nothing.
-use native.Mathlib.Omega.{arith}
 use borrow.Author.Needs.{needs}
 use Rattle.frame_writer.specs.Error.{errorHeadV1}
 use Rattle.gauge.proofs.Sends.{renumbered, sent-v1, error-v1-le}

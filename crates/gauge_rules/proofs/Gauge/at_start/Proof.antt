@@ -1,5 +1,4 @@
 -- `gauge_rules::Gauge::at_start` meets its contract. Assumes nothing.
-use mathlib.Core.Path.{refl}
 use borrow.Author.Needs.{needs}
 use Rattle.gauge_rules.proofs.Gauge.at_start.Statement.{statement}
 use Rattle.gauge_rules.proofs.Gauge.at_start.Tie as tie

@@ -1,0 +1,80 @@
+-- Every state that calls reach is sound: settings within the limits, ST's F strictly below T, readings as the bench can set them. Assumes nothing.
+use mathlib.Core.Path.{_≡_, refl}
+use mathlib.Core.Bool.{true, false}
+use mathlib.Core.List.{List}
+use Prim.Native.Nat.{ℕ}
+use lib.Dec.{eqb}
+use Rattle.frames.specs.Frame.{dataFrom, headV2}
+use Rattle.decimal.specs.Number.{belowOf}
+use Rattle.decimal.specs.declared.Number.{Number}
+use Rattle.settings.specs.declared.Transition.the-variants.{Between}
+use Rattle.settings.specs.declared.Setting.the-variants.{Switch}
+use Rattle.readings.specs.Bench.{benchOf}
+use Rattle.readings.specs.declared.Bench.{Bench}
+use Rattle.readings.specs.declared.Benched.{Benched}
+use Rattle.readings.specs.declared.Benched.the-variants.{Accepted, Refused}
+use Rattle.readings_facts.specs.Sound.{SoundReadings, Machine}
+use Rattle.readings_facts.specs.Kept as readings
+use Rattle.forms_facts.specs.Sound.{Sound, SoundSettings}
+use Rattle.forms_facts.specs.Kept.{factory-sound}
+use Rattle.gauge_rules.specs.State.{State, fresh}
+use Rattle.gauge_table.specs.Asked.{isV1, askedV1}
+use Rattle.gauge_table.specs.Table.{numberOf}
+use Rattle.gauge_table.specs.DecidedV2.{by}
+use Rattle.gauge_table.specs.DecidedV1.{decidedV1}
+use Rattle.gauge_table.specs.Numbers.{number-v1}
+use Rattle.gauge_table.specs.After.{afterwards, nextOf, benched}
+use Rattle.gauge_facts.specs.Refused.{refused-keeps, readings-stay}
+use Rattle.gauge_facts.specs.Lemmas.Rows.{past-row}
+use Rattle.gauge_facts.specs.Lemmas.Entered.{v2-sound, v1-sound}
+
+pub record SoundState (g : State) : Type 0 where
+  pub settings : SoundSettings (g .settings)
+  pub readings : SoundReadings (g .readings)
+
+-- a gauge starts so
+pub fresh-sound : SoundState fresh
+fresh-sound = record { settings = factory-sound; readings = readings.start-sound }
+
+module _ (g : State) (room : ℕ) (s : List ℕ) where
+  -- an accepted V1 request is decided by the rules of V1
+  decided : isV1 s ≡ true → eqb (numberOf g room s) 0 ≡ true → numberOf g room s ≡ decidedV1 g (askedV1 s)
+  unfolding numberOf
+  decided l e =
+      let a = past-row _ 1 _ refl e in
+      let b = past-row _ 2 _ refl (a .1) in
+      let c = past-row _ 3 _ refl (b .1) in
+      let d = past-row _ 4 _ refl (c .1) in
+      let f = past-row _ 5 _ refl (d .1) in
+      number-v1 s g room (a .0) (record { shape = b .0; sum = c .0; address = d .0 }) (f .0) l
+
+  accepted-v1 : SoundSettings (g .settings) → eqb (numberOf g room s) 0 ≡ true → isV1 s ≡ true → SoundSettings (nextOf g room s .settings)
+  unfolding nextOf afterwards
+  accepted-v1 f e l = rw (e, l) (v1-sound g (askedV1 s) f (rw (decided l e) at e))
+
+  accepted-v2 : SoundSettings (g .settings) → eqb (numberOf g room s) 0 ≡ true → isV1 s ≡ false → SoundSettings (nextOf g room s .settings)
+  unfolding nextOf afterwards
+  accepted-v2 f e l = rw (e, l) (v2-sound (g .settings) f (headV2 s) (dataFrom 8 s))
+
+  settings-sound : SoundSettings (g .settings) → SoundSettings (nextOf g room s .settings)
+  settings-sound f =
+      by (eqb (numberOf g room s) 0)
+      (λ e. by (isV1 s) (accepted-v1 f e) (accepted-v2 f e))
+      (λ e. rw (refused-keeps g room s e) f)
+
+  -- any request leaves it so, whatever its bytes and the memory lent
+  pub next-sound : SoundState g → SoundState (nextOf g room s)
+  next-sound f = record { settings = settings-sound (f .settings); readings = rw (readings-stay g room s) (f .readings) }
+
+-- and so does any bench setting whose digits are a machine number, as they are in every bench call
+pub bench-sound : (g : State) (b : Bench) → Machine b → SoundState g → SoundState (benched g (benchOf b))
+unfolding benched
+bench-sound g b m f = go (benchOf b) refl
+  where
+    go : (x : Benched) → benchOf b ≡ x → SoundState (benched g x)
+    go (Accepted r) e = record { settings = f .settings; readings = readings.bench-sound (g .readings) b r m (f .readings) e }
+    go Refused e = f
+
+-- "A transition's lower end stays below its upper end."
+pub lower-below : (g : State) (low high : Number) → SoundState g → g .settings .transition ≡ Between low high → belowOf low high ≡ true
+lower-below g low high f e = let h : Sound (Switch (Between low high)) = rw e at (f .settings .transition) in h .2

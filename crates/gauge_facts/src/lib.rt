@@ -1,0 +1,1 @@
+// Document 01, "Answer numbers of the text gauge": theorems only, in specs/.

@@ -66,7 +66,7 @@ module _ (g : State) (a : ℕ) (d : List ℕ) where
         go : (k ≡ 10) ⊎ ((k ≡ 11) ⊎ (k ≡ 12)) → from10 g a (Known (Of key)) (y ∷ ds) (Refused k) ≡ k
         go (inl n) = rw (w, e, n, eqb·suc-zero (length ds))
         go (inr (inl n)) = rw (w, e, n, eqb·suc-zero (length ds))
-        go (inr (inr n)) = rw (w, e, n, eqb·suc-zero (length ds))
+        go (inr (inr n)) = rw (w, e, n, eqb·suc-zero (length ds)) refl
 
     judged : (s : List ℕ) → from10 g a (Known (Of key)) s (setOf (verdictOf key s)) ≡ decidedV2 g (setOf (verdictOf key s))
     unfolding badFormV2 decidedV2 setOf pick
@@ -93,7 +93,7 @@ module _ (g : State) (a : ℕ) (d : List ℕ) where
 
   lacking : (c : Command) → lacksAccess a c ≡ true → from8 g a (Known c) d (askKnown a c d) ≡ decidedV2 g (askKnown a c d)
   unfolding unknownCommand lacks askKnown decidedV2 pick
-  lacking c e = rw e
+  lacking c e = rw e refl
 
   writing : (c : Command) → lacksAccess a c ≡ false → eqb a writeCode ≡ true → from8 g a (Known c) d (askKnown a c d) ≡ decidedV2 g (askKnown a c d)
   unfolding unknownCommand lacks askKnown pick

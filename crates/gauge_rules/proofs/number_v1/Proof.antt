@@ -1,5 +1,5 @@
 -- `gauge_rules::number_v1` meets its contract. Assumes nothing.
-use mathlib.Core.Path.{sym, _∙_}
+use mathlib.Core.Path.{refl, sym, _∙_}
 use borrow.Author.Needs.{needs}
 use Rattle.buffer.specs.First.{pick}
 use Rattle.gauge_rules.specs.RulesV1.{grantV1}
@@ -13,7 +13,7 @@ number-v1-spec =
     (tie.spec
     (λ c. search needs)
     (λ c κs. search needs)
-    (λ c. rw (c .before .before .enum-told .given .1, sym (c .before .is-faulty .ensures) ∙ c .if1 .taken))
+    (λ c. rw (c .before .before .enum-told .given .1, sym (c .before .is-faulty .ensures) ∙ c .if1 .taken) refl)
     (λ c. search needs)
     (λ c κs. search needs)
     (λ c. search needs)

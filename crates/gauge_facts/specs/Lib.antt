@@ -1,9 +1,10 @@
 -- Document 01, "Answer numbers of the text gauge": theorems to lay beside the paper. Accepted says exactly when a request is accepted, Refused
--- what a request leaves as it was, Kept that what calls reach lies within the limits, Lengths that every reply fits. Examples has worked
+-- what a request leaves as it was, Kept that what calls reach lies within the limits, Lengths that every reply fits, Line that the line does. Examples has worked
 -- cases and whole sequences.
 pub mod Accepted
 pub mod Refused
 pub mod Kept
 pub mod Lengths
+pub mod Line
 pub mod Examples
 pub mod Lemmas

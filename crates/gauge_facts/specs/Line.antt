@@ -1,0 +1,35 @@
+-- The stream line: whole values, and at most 96 bytes. Assumes nothing.
+use mathlib.Core.Path.{_≡_, refl}
+use mathlib.Core.List.{List, [], _∷_, map}
+use Prim.Native.Nat.{ℕ, _≤_}
+use native.Mathlib.Omega.{arith}
+use lib.ListN.{length}
+use Rattle.buffer.specs.Answer.{Answer}
+use Rattle.buffer.proofs.Rules.{each}
+use Rattle.sources.specs.Source.{mostEntries}
+use Rattle.settings.specs.Limits.{standard, longestLine, longest-is}
+use Rattle.settings.specs.Settings.{Held}
+use Rattle.readings.specs.Reading.{valueText}
+use Rattle.readings.specs.declared.Readings.{Readings}
+use Rattle.readings_facts.specs.Sound.{SoundReadings}
+use Rattle.readings_facts.specs.Widths.{whole-value}
+use Rattle.line.specs.Line.{valueOf, valuesOf, lineAnswer}
+use Rattle.line.proofs.Laws.{line-le}
+
+-- readings within the bench's limits are shown whole: source 0 is never negative, and no other value is wider than its source's width
+pub line-whole : (list : List ℕ) (r : Readings) → SoundReadings r → valuesOf list r ≡ map (λ (code : ℕ). valueText code r) (0 ∷ list)
+unfolding valuesOf valueOf
+line-whole list r f = go (0 ∷ list)
+  where
+    go : (codes : List ℕ) → map (valueOf r) codes ≡ map (λ (code : ℕ). valueText code r) codes
+    go [] = refl
+    go (c ∷ codes) = rw (whole-value r f c, go codes)
+
+-- "Longest: .. 96 bytes", in any state whose list has at most seven entries
+pub line-fits : (room : ℕ) (h : Held) (r : Readings) → length (h .list) ≤ mostEntries → length (lineAnswer room h r .reply) ≤ longestLine standard
+unfolding lineAnswer
+line-fits room h r k =
+    rw longest-is (each Fits _ _ _ (λ _. omega arith) (λ _. each Fits _ _ _ (λ _. omega arith) (λ _. line-le (h .list) r k)))
+  where
+    Fits : Answer → Type 0
+    Fits a = length (a .reply) ≤ 96

@@ -37,7 +37,7 @@ use Rattle.requests.specs.declared.AskV1.the-variants.{Asks, Denied}
 use Rattle.requests_facts.specs.Data.{refused-data}
 use Rattle.gauge_rules.specs.State.{State}
 use Rattle.gauge_rules.specs.RulesV2.{grantV2}
-use Rattle.gauge_rules.specs.RulesV1.{factorNumber, grantV1}
+use Rattle.gauge_rules_v1.specs.RulesV1.{factorNumber, grantV1}
 use Rattle.gauge_table.specs.Asked.{askedV2, askedV1}
 use Rattle.gauge_table.specs.Table.{numberOf}
 use Rattle.gauge_table.specs.Reply.{errorV2, acceptedV2, acceptedV1, replyOf}

@@ -30,7 +30,7 @@ use Rattle.requests.specs.declared.AskV1.{AskV1}
 use Rattle.requests.specs.declared.AskV1.the-variants.{Asks, Denied}
 use Rattle.gauge_rules.specs.State.{State, stateOf}
 use Rattle.gauge_rules.specs.RulesV2.{answerCode, grantV2, textV2, enterV2}
-use Rattle.gauge_rules.specs.RulesV1.{grantV1, textV1, repeats, unlocks, enterV1}
+use Rattle.gauge_rules_v1.specs.RulesV1.{grantV1, textV1, repeats, unlocks, enterV1}
 use Rattle.gauge_rules.specs.declared.Gauge.{Gauge}
 use Rattle.gauge_table.specs.Table.{answerRoom, otherAddress, numberOf}
 use Rattle.gauge_table.specs.Reply.{errorV2, errorV1, answerHead}

@@ -23,7 +23,7 @@ use Rattle.readings.specs.declared.Pressure.the-variants.{Measured, Under, Over
 use Rattle.requests.specs.declared.RequestV1.{RequestV1}
 use Rattle.requests.specs.declared.RequestV1.the-variants.{Measure, ReadFactor, Unlock, SetFactor, ReadUnit, SetUnit}
 use Rattle.gauge_rules.specs.State.{State}
-use Rattle.gauge_rules.specs.RulesV1.{textV1}
+use Rattle.gauge_rules_v1.specs.RulesV1.{textV1}
 use Rattle.gauge.specs.Inner.{Fits}
 
 -- the answer `a` with another number

@@ -10,7 +10,7 @@ ghost use Rattle.settings.specs.Settings.{held};
 ghost use Rattle.frame_writer.specs.Written.{frameV1, frameV2};
 ghost use Rattle.buffer.specs.First.{_⇒_, first};
 ghost use Rattle.gauge_rules.specs.State.{stateOf};
-ghost use Rattle.gauge_rules.specs.RulesV1.{textV1, repeats};
+ghost use Rattle.gauge_rules_v1.specs.RulesV1.{textV1, repeats};
 ghost use Rattle.line.specs.Line.{lineAnswer};
 ghost use Rattle.gauge_table.specs.Reply.{errorV2, errorV1, answerHead};
 ghost use Rattle.gauge.specs.Answer.{Answers, Benches};
@@ -153,10 +153,10 @@ fn granted_v1(
     requires { ⌜ length (now request) ≤ 12 ⌝ }
     ensures { λ r. ⌜ Sent (now (out .entry)) (record { number = 0; reply = first (repeats asks ⇒ now (request .entry) ∷ []) (frameV1 head (textV1 (stateOf g) asks)) }) (now (out .exit)) r ⌝ }
 {
-    if gauge_rules::repeats_request(asks) {
+    if gauge_rules_v1::repeats_request(asks) {
         return repeat(out, request);
     }
-    let text = gauge_rules::text_v1(g, asks);
+    let text = gauge_rules_v1::text_v1(g, asks);
     reply_v1(out, head, text)
 }
 
@@ -182,13 +182,13 @@ fn answer_v1(
     match ask {
         requests::AskV1::Denied(k) => same(locked, refuse_v1(out, head, k)),
         requests::AskV1::Asks(asks) => {
-            let number = gauge_rules::number_v1(g, asks);
+            let number = gauge_rules_v1::number_v1(g, asks);
             if number != 0 {
                 return same(locked, refuse_v1(out, head, number));
             }
             let written = granted_v1(g, request, head, asks, out);
-            let unlocked = gauge_rules::unlocks_gauge(asks);
-            let entered = gauge_rules::enter_v1(settings, asks);
+            let unlocked = gauge_rules_v1::unlocks_gauge(asks);
+            let entered = gauge_rules_v1::enter_v1(settings, asks);
             Answered {
                 gauge: gauge_rules::Gauge {
                     settings: entered,

@@ -36,7 +36,7 @@ use Rattle.requests.specs.AskV2.{setOf, writeOf, askKnown, askNamed, askV2, wri
 use Rattle.requests.specs.Command.{commandOf, isAccess, canWrite, canRestore, lacksAccess}
 use Rattle.requests.specs.declared.Command.the-variants.{FS, Of}
 use Rattle.line.specs.Line.{valueOf, valuesOf, tailOf, joined, lineAnswer}
-use Rattle.gauge_rules.specs.RulesV1.{unitCode, textV1, repeats, unlocks, enterFactor, enterV1}
+use Rattle.gauge_rules_v1.specs.RulesV1.{unitCode, textV1, repeats, unlocks, enterFactor, enterV1}
 use Rattle.gauge_rules.specs.RulesV2.{filamentOf, changesCathode, readsFaulty, sentText, textV2, answerCode, enterV2}
 use Rattle.gauge_rules.specs.State.{State, fresh}
 use Rattle.gauge_table.specs.After.{answerOf as tableAnswer, enteredV2, enteredV1, asksUnlock, afterwards, nextOf, benched}

@@ -45,7 +45,7 @@ use Rattle.requests.specs.declared.AskV1.{AskV1}
 use Rattle.requests.specs.declared.AskV1.the-variants.{Asks, Denied}
 use Rattle.gauge_rules.specs.State.{State}
 use Rattle.gauge_rules.specs.RulesV2.{sentText, textV2}
-use Rattle.gauge_rules.specs.RulesV1.{textV1}
+use Rattle.gauge_rules_v1.specs.RulesV1.{textV1}
 use Rattle.gauge_table.specs.Asked.{isV1}
 use Rattle.gauge_table.specs.Table.{numberOf}
 use Rattle.gauge_table.specs.Reply.{acceptedV2, acceptedV1, replyOf}

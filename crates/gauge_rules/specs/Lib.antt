@@ -1,4 +1,3 @@
--- The text gauge's state, and how typed requests are decided and entered.
+-- The text gauge's state, and how typed V2 requests are decided and entered.
 pub mod State
 pub mod RulesV2
-pub mod RulesV1

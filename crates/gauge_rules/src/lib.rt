@@ -1,5 +1,4 @@
-// The text gauge's state, and the rules by which typed requests are decided and entered (document 01, "Settings and readings, V2" and
-// "V1 on the same settings").
+// The text gauge's state, and the rules by which typed V2 requests are decided and entered (document 01, "Settings and readings, V2").
 ghost use mathlib.Core.Path.{_≡_};
 ghost use mathlib.Core.Bool.{_&&_};
 ghost use mathlib.Core.List.{[]};
@@ -11,7 +10,6 @@ ghost use Rattle.requests.specs.declared.Command.{Command};
 ghost use Rattle.requests.specs.declared.RequestV2.{RequestV2};
 ghost use Rattle.gauge_rules.specs.State.{stateOf, fresh};
 ghost use Rattle.gauge_rules.specs.RulesV2.{filamentOf, changesCathode, readsFaulty, grantV2, sentText, textV2, answerCode, enterV2};
-ghost use Rattle.gauge_rules.specs.RulesV1.{digits6, unitCode, factorNumber, enterFactor, grantV1, textV1, repeats, unlocks, enterV1};
 
 // A gauge: its settings, its readings with FS, and whether it is unlocked.
 pub struct Gauge {
@@ -219,143 +217,5 @@ pub fn enter_v2(
         requests::RequestV2::Read(_) => s,
         requests::RequestV2::Restore(command) => restored(s, command),
         requests::RequestV2::Set(setting) => s.with(setting, list),
-    }
-}
-
-// ---- V1
-
-// A number as six digits.
-fn six_digits(n: u16) -> buffer::Text
-    ensures { λ r. ⌜ textOf r ≡ digits6 n ⌝ }
-{
-    let digits = [
-        (n / 1000 / 100 % 10) as u8 + 48,
-        (n / 1000 / 10 % 10) as u8 + 48,
-        (n / 1000 % 10) as u8 + 48,
-        (n / 100 % 10) as u8 + 48,
-        (n / 10 % 10) as u8 + 48,
-        (n % 10) as u8 + 48,
-    ];
-    buffer::Text::EMPTY.add(&digits)
-}
-
-// V1's number of a unit.
-fn unit_code(unit: settings::PressureUnit) -> u16
-    ensures { λ r. ⌜ r ≡ unitCode unit ⌝ }
-{
-    match unit {
-        settings::PressureUnit::Mbar => 0,
-        settings::PressureUnit::Torr => 1,
-        settings::PressureUnit::HPa => 2,
-    }
-}
-
-// The number of a `c` with six digits.
-fn factor_number(unlocked: bool, n: u32) -> u8
-    ensures { λ r. ⌜ r ≡ factorNumber unlocked n ⌝ }
-{
-    if !unlocked {
-        return 12;
-    }
-    if n < settings::Settings::FACTOR_MIN as u32 {
-        return 11;
-    }
-    if (settings::Settings::FACTOR_MAX as u32) < n {
-        return 11;
-    }
-    0
-}
-
-// The number of a V1 request: 11 RANGE, 12 LOGIC, 13 FAULT or 0.
-pub fn number_v1(g: Gauge, request: requests::RequestV1) -> u8
-    ensures { λ r. ⌜ r ≡ grantV1 (stateOf g) request ⌝ }
-{
-    let r = g.readings;
-    let p0 = r.p0;
-    match request {
-        requests::RequestV1::Measure => {
-            if readings::is_faulty(p0) {
-                return 13;
-            }
-            0
-        }
-        requests::RequestV1::SetFactor(n) => factor_number(g.unlocked, n),
-        requests::RequestV1::ReadFactor => 0,
-        requests::RequestV1::Unlock => 0,
-        requests::RequestV1::ReadUnit => 0,
-        requests::RequestV1::SetUnit(_) => 0,
-    }
-}
-
-// The data of the reply to an accepted V1 request that reads.
-pub fn text_v1(g: Gauge, request: requests::RequestV1) -> buffer::Text
-    ensures { λ r. ⌜ textOf r ≡ textV1 (stateOf g) request ⌝ }
-{
-    let s = g.settings;
-    let r = g.readings;
-    let p0 = r.p0;
-    let unit = s.unit;
-    match request {
-        requests::RequestV1::Measure => readings::measure_text(p0),
-        requests::RequestV1::ReadFactor => six_digits(s.factor),
-        requests::RequestV1::ReadUnit => six_digits(unit_code(unit)),
-        requests::RequestV1::Unlock => buffer::Text::EMPTY,
-        requests::RequestV1::SetFactor(_) => buffer::Text::EMPTY,
-        requests::RequestV1::SetUnit(_) => buffer::Text::EMPTY,
-    }
-}
-
-// Whether the reply repeats the request.
-pub fn repeats_request(request: requests::RequestV1) -> bool
-    ensures { λ r. ⌜ r ≡ repeats request ⌝ }
-{
-    match request {
-        requests::RequestV1::Measure => false,
-        requests::RequestV1::ReadFactor => false,
-        requests::RequestV1::ReadUnit => false,
-        requests::RequestV1::Unlock => true,
-        requests::RequestV1::SetFactor(_) => true,
-        requests::RequestV1::SetUnit(_) => true,
-    }
-}
-
-// Whether an accepted request unlocks.
-pub fn unlocks_gauge(request: requests::RequestV1) -> bool
-    ensures { λ r. ⌜ r ≡ unlocks request ⌝ }
-{
-    match request {
-        requests::RequestV1::Unlock => true,
-        requests::RequestV1::Measure => false,
-        requests::RequestV1::ReadFactor => false,
-        requests::RequestV1::ReadUnit => false,
-        requests::RequestV1::SetFactor(_) => false,
-        requests::RequestV1::SetUnit(_) => false,
-    }
-}
-
-// A factor entered, where it is one.
-fn enter_factor(s: settings::Settings, n: u32) -> settings::Settings
-    ensures { λ r. ⌜ held r ≡ enterFactor (held s) n ⌝ }
-{
-    if (settings::Settings::FACTOR_MAX as u32) < n {
-        return s;
-    }
-    s.with(settings::Setting::Factor(n as u16), sources::Sources::NONE)
-}
-
-// The settings after an accepted V1 request.
-pub fn enter_v1(s: settings::Settings, request: requests::RequestV1) -> settings::Settings
-    ensures { λ r. ⌜ held r ≡ enterV1 (held s) request ⌝ }
-{
-    match request {
-        requests::RequestV1::Measure => s,
-        requests::RequestV1::ReadFactor => s,
-        requests::RequestV1::ReadUnit => s,
-        requests::RequestV1::Unlock => s,
-        requests::RequestV1::SetFactor(n) => enter_factor(s, n),
-        requests::RequestV1::SetUnit(unit) => s.with(
-            settings::Setting::PressureIn(unit),
-            sources::Sources::NONE,
-        ),
     }
 }

@@ -17,7 +17,7 @@ use Rattle.requests.specs.declared.AskV1.{AskV1}
 use Rattle.requests.specs.declared.AskV1.the-variants.{Asks, Denied}
 use Rattle.gauge_rules.specs.State.{State}
 use Rattle.gauge_rules.specs.RulesV2.{enterV2}
-use Rattle.gauge_rules.specs.RulesV1.{enterV1, unlocks}
+use Rattle.gauge_rules_v1.specs.RulesV1.{enterV1, unlocks}
 use Rattle.gauge_table.specs.Asked.{isV1, askedV2, askedV1}
 use Rattle.gauge_table.specs.Table.{numberOf}
 use Rattle.gauge_table.specs.Reply.{replyOf}

@@ -18,7 +18,7 @@ use Rattle.requests.specs.declared.RequestV1.the-variants.{Measure, ReadFactor,
 use Rattle.requests.specs.declared.AskV1.{AskV1}
 use Rattle.requests.specs.declared.AskV1.the-variants.{Asks, Denied}
 use Rattle.gauge_rules.specs.State.{State}
-use Rattle.gauge_rules.specs.RulesV1.{factorNumber, grantV1}
+use Rattle.gauge_rules_v1.specs.RulesV1.{factorNumber, grantV1}
 use Rattle.gauge_table.specs.Asked.{oneDigit, unknownLetter, badFormV1, lockedWrite, outsideV1, measuresFaulty}
 use Rattle.gauge_table.specs.DecidedV2.{by}
 

@@ -16,7 +16,7 @@ use Rattle.requests.specs.declared.AskV1.{AskV1}
 use Rattle.requests.specs.declared.AskV1.the-variants.{Asks, Denied}
 use Rattle.gauge_rules.specs.State.{State}
 use Rattle.gauge_rules.specs.RulesV2.{answerCode, textV2}
-use Rattle.gauge_rules.specs.RulesV1.{textV1, repeats}
+use Rattle.gauge_rules_v1.specs.RulesV1.{textV1, repeats}
 use Rattle.gauge_table.specs.Asked.{isV1, askedV2, askedV1}
 
 -- "any refused V2 request by 7", the table's text; V1's errors

@@ -34,7 +34,7 @@ use Rattle.requests.specs.declared.AskV1.{AskV1}
 use Rattle.requests.specs.declared.AskV1.the-variants.{Asks, Denied}
 use Rattle.gauge_rules.specs.State.{State}
 use Rattle.gauge_rules.specs.RulesV2.{enterV2}
-use Rattle.gauge_rules.specs.RulesV1.{factorNumber, grantV1, enterFactor, enterV1}
+use Rattle.gauge_rules_v1.specs.RulesV1.{factorNumber, grantV1, enterFactor, enterV1}
 use Rattle.gauge_table.specs.DecidedV1.{decidedV1}
 use Rattle.gauge_table.specs.After.{enteredV2, enteredV1}
 use Rattle.gauge_facts.specs.Lemmas.Rows.{past-row}

@@ -26,6 +26,7 @@ unfoldable pub setOf : Verdict → AskV2
 setOf (verdict.Set x) = For (Set x)
 setOf (verdict.Refused k) = Refused k
 
+-- a write; a command that has none is refused with 9 before its data are looked at
 unfoldable pub writeOf : Command → List ℕ → AskV2
 writeOf MV s = Refused 9
 writeOf T2 s = Refused 9

@@ -1,5 +1,5 @@
 -- `gauge::set_bench` meets its contract. Assumes nothing.
-use mathlib.Core.Path.{_≡_, sym, _∙_}
+use mathlib.Core.Path.{_≡_, refl, sym, _∙_}
 use borrow.Author.Needs.{needs}
 use Rattle.readings.specs.Bench.{benchOf}
 use Rattle.readings.specs.declared.Benched.the-variants.{Refused}
@@ -11,7 +11,7 @@ returns : tie.Need-returns
 unfolding benched
 returns c =
     let e : benchOf (c .before .before .before .before .before .args .b) ≡ Refused = sym (c .before .before .judge-bench .ensures) ∙ c .enum-told .given .1 in
-    record { number = rw e; state = rw e }
+    record { number = rw e refl; state = rw e }
 
 returns-2 : tie.Need-returns-2
 unfolding benched

@@ -1,4 +1,5 @@
 -- `settings::Settings::with` meets its contract. Assumes nothing.
+use mathlib.Core.Path.{refl}
 use borrow.Author.Needs.{needs}
 use Rattle.settings.specs.Settings.{putOf}
 use Rattle.settings.proofs.Settings.with.Statement.{statement}
@@ -26,4 +27,4 @@ with-spec =
     (λ c. rw (c .before .setting5 .given .1))
     (λ c. rw (c .before .setting6 .given .1))
     (λ c. rw (c .before .before .setting7 .given .1) (c .with-both2 .ensures))
-    (λ c. rw (c .before .setting8 .given .1)))
+    (λ c. rw (c .before .setting8 .given .1) refl))

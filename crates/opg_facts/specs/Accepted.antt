@@ -1,0 +1,242 @@
+-- Exactly which requests are accepted, what a refused one changes, and that settings stay within their limits. Assumes nothing.
+use mathlib.Core.Path.{_≡_, refl, ap, _∙_}
+use mathlib.Core.Bool.{Bool, true, false, not, _&&_, _||_, true≢false, and-eq-true-iff}
+use mathlib.Core.List.{List, [], _∷_, _++_}
+use Prim.Native.Nat.{ℕ, zero, suc}
+use borrow.Author.Tests.{le-leb, not-true, not-false}
+use lib.Dec.{leb, ltb, eqb}
+use lib.ListN.{drop}
+use Rattle.buffer.specs.First.{Row, _⇒_, first, pick}
+use Rattle.buffer.specs.Byte.{within}
+use Rattle.buffer.proofs.Laws.{within-true}
+use Rattle.opg_frames.specs.Frame.{cmdOf, foreign, wrongCrc, wrongVersion, acknowledges, indexed}
+use Rattle.opg_commands.specs.Request.{outsideOf}
+use Rattle.opg_requests.specs.Asked.{wrongShape, unknownCmd, unknownPid, lacksAccess, wrongCount, refusals, meaning, wrongMode, outside, askedOf, askedNumber}
+use Rattle.opg_commands.specs.declared.Request.{Request}
+use Rattle.opg_commands.specs.declared.Request.the-variants.{ReadPressure, ReadUnit, WriteUnit, DetectionOff, DetectionOn}
+use Rattle.opg_requests.specs.declared.Asked.{Asked}
+use Rattle.opg_requests.specs.declared.Asked.the-variants.{Silent, Error, Accepted}
+use Rattle.opg_commands.specs.Limits.{unitLow, unitHigh, modeHigh, gasHigh}
+use Rattle.opg_commands.specs.Settings.{factory, entered}
+use Rattle.opg_gauge.specs.Judged.{unavailable, judgement, after}
+use Rattle.opg_gauge.specs.declared.Gauge.{Gauge}
+use Rattle.opg_commands.specs.declared.Settings.{Settings}
+use Rattle.opg_answer.specs.Reply.{replyTo, answerOf, afterOf}
+
+-- ---- rows
+
+-- no row's test holds
+unfoldable pub none : {A : Type 0} → List (Row A) → Bool
+none [] = true
+none ((t ⇒ a) ∷ rows) = not t && none rows
+
+-- P of what each row gives
+abbrev Each : {A : Type 0} → (A → Type 0) → List (Row A) → Type 0
+Each P [] = true ≡ true
+Each P ((t ⇒ a) ∷ rows) = P a × Each P rows
+
+-- whatever the rows give has P, if each row's has it, and the last where no test holds
+gives : {A : Type 0} (P : A → Type 0) (rows : List (Row A)) (d : A) → Each P rows → (none rows ≡ true → P d) → P (first rows d)
+unfolding pick none
+gives P [] d h k = k refl
+gives {A} P ((t ⇒ a) ∷ rows) d h k = go t (λ (f : none rows ≡ true → P d). gives P rows d (h .1) f) k
+  where
+    go : (b : Bool) → ((none rows ≡ true → P d) → P (first rows d)) → ((not b && none rows) ≡ true → P d) → P (pick b a (first rows d))
+    go true rest k = h .0
+    go false rest k = rest k
+
+-- a request is accepted
+unfoldable pub isAccepted : Asked → Bool
+isAccepted (Silent k) = false
+isAccepted (Error e) = false
+isAccepted (Accepted r) = true
+
+-- rows of refusals: accepted exactly if no test holds
+accepted-rows : (rows : List (Row Asked)) (r : Request) → Each (λ (a : Asked). isAccepted a ≡ false) rows → isAccepted (first rows (Accepted r)) ≡ none rows
+unfolding pick none isAccepted
+accepted-rows [] r h = refl
+accepted-rows ((t ⇒ a) ∷ rows) r h = go t (accepted-rows rows r (h .1))
+  where
+    go : (b : Bool) → isAccepted (first rows (Accepted r)) ≡ none rows → isAccepted (pick b a (first rows (Accepted r))) ≡ (not b && none rows)
+    go true e = h .0
+    go false e = e
+
+-- ---- the request reader, and the gauge
+
+-- bytes are a request exactly if none of the refusals applies
+pub asked-exactly : (s : List ℕ) → isAccepted (askedOf s) ≡ none (refusals s)
+unfolding askedOf isAccepted
+asked-exactly s = accepted-rows (refusals s) (meaning s) (refl, (refl, (refl, (refl, (refl, (refl, (refl, (refl, (refl, (refl, (refl, refl)))))))))))
+
+-- the gauge's rows: 21, the refusals, 1000
+abbrev pub rowsOf : ℕ → Gauge → List ℕ → List (Row Asked)
+rowsOf room g s = (ltb room 32 ⇒ Silent 21 ∷ []) ++ refusals s ++ (unavailable g (meaning s) ⇒ Error 0 ∷ [])
+
+-- the gauge accepts exactly if none of its rows applies
+pub accepts-exactly : (room : ℕ) (g : Gauge) (s : List ℕ) → isAccepted (judgement room g s) ≡ none (rowsOf room g s)
+unfolding judgement isAccepted
+accepts-exactly room g s = accepted-rows (rowsOf room g s) (meaning s) (refl, (refl, (refl, (refl, (refl, (refl, (refl, (refl, (refl, (refl, (refl, (refl, (refl, refl)))))))))))))
+
+-- the answer's number is document 01's number of what the gauge judged
+pub number-is : (room : ℕ) (g : Gauge) (s : List ℕ) → answerOf room g s .number ≡ askedNumber (judgement room g s)
+unfolding answerOf replyTo askedNumber
+number-is room g s = go (cmdOf s) (judgement room g s)
+  where
+    go : (cmd : ℕ) (a : Asked) → replyTo g cmd a .number ≡ askedNumber a
+    go cmd (Silent k) = refl
+    go cmd (Error e) = refl
+    go cmd (Accepted r) = refl
+
+-- ---- "A request is accepted exactly if lent room, frame, checksum, address, command, access, data and state satisfy document 01"
+
+-- 21: not "less than 32 bytes lent"
+abbrev pub roomFits : ℕ → Bool
+roomFits room = not (ltb room 32)
+
+-- 22: the length and the reserved bits; 104 and 102: the version, and the acknowledge clear
+abbrev pub frameFits : List ℕ → Bool
+frameFits s = not (wrongShape s)
+
+abbrev pub headerFits : List ℕ → Bool
+headerFits s = not (wrongVersion s) && not (acknowledges s)
+
+-- 23: ADDR and ID are 0
+abbrev pub addressFits : List ℕ → Bool
+addressFits s = not (foreign 0 s)
+
+-- 100: it does not differ
+abbrev pub checksumFits : List ℕ → Bool
+checksumFits s = not (wrongCrc s)
+
+-- 101 and 3: CMD and PID are known
+abbrev pub commandFits : List ℕ → Bool
+commandFits s = not (unknownCmd s) && not (unknownPid s)
+
+-- 1: the PID has this access
+abbrev pub accessFits : List ℕ → Bool
+accessFits s = not (lacksAccess s)
+
+-- 2, 4 and 2: IDX is 0, the data have their length, no value lies outside
+abbrev pub dataFits : List ℕ → Bool
+dataFits s = not (indexed s) && (not (wrongCount s) && not (outside s))
+
+-- 0: no unavailable pressure is asked for
+abbrev pub stateFits : Gauge → List ℕ → Bool
+stateFits g s = not (unavailable g (meaning s))
+
+-- the rows' tests, by what they are about
+grouped : (a b c d e f g h i j k l m : Bool)
+    → not a && (not b && (not c && (not d && (not e && (not f && (not g && (not h && (not i && (not j && (not k && (not l && (not m && true))))))))))))
+    ≡ (not a && (not b && (not c && (not d && ((not e && not f) && ((not g && not h) && (not i && ((not j && (not k && not l)) && not m))))))))
+grouped true b c d e f g h i j k l m = refl
+grouped false true c d e f g h i j k l m = refl
+grouped false false true d e f g h i j k l m = refl
+grouped false false false true e f g h i j k l m = refl
+grouped false false false false true f g h i j k l m = refl
+grouped false false false false false true g h i j k l m = refl
+grouped false false false false false false true h i j k l m = refl
+grouped false false false false false false false true i j k l m = refl
+grouped false false false false false false false false true j k l m = refl
+grouped false false false false false false false false false true k l m = refl
+grouped false false false false false false false false false false true l m = refl
+grouped false false false false false false false false false false false true m = refl
+grouped false false false false false false false false false false false false true = refl
+grouped false false false false false false false false false false false false false = refl
+
+-- no row gives the number 20
+taken : (a : Asked) → Type 0
+taken a = eqb (askedNumber a) 20 ≡ isAccepted a
+
+number-20 : (room : ℕ) (g : Gauge) (s : List ℕ) → taken (judgement room g s)
+unfolding taken judgement askedNumber isAccepted
+number-20 room g s =
+    gives taken (rowsOf room g s) (Accepted (meaning s)) (refl, (refl, (refl, (refl, (refl, (refl, (refl, (refl, (refl, (refl, (refl, (refl, (refl, refl))))))))))))) (λ _. refl)
+
+-- the number is 20 exactly if these conditions hold, in document 01's order
+pub accepted-exactly : (room : ℕ) (g : Gauge) (s : List ℕ)
+    → eqb (answerOf room g s .number) 20
+    ≡ (roomFits room && (frameFits s && (addressFits s && (checksumFits s && (headerFits s && (commandFits s && (accessFits s && (dataFits s && stateFits g s))))))))
+unfolding none taken
+accepted-exactly room g s =
+    ap (λ (n : ℕ). eqb n 20) (number-is room g s)
+    ∙ number-20 room g s
+    ∙ accepts-exactly room g s
+    ∙ grouped
+    (ltb room 32) (wrongShape s) (foreign 0 s) (wrongCrc s) (wrongVersion s) (acknowledges s) (unknownCmd s) (unknownPid s) (lacksAccess s) (indexed s) (wrongCount s) (outside s)
+    (unavailable g (meaning s))
+
+-- a refused request changes nothing
+pub refused-keeps : (room : ℕ) (g : Gauge) (s : List ℕ) → isAccepted (judgement room g s) ≡ false → afterOf room g s ≡ g
+unfolding afterOf after isAccepted
+refused-keeps room g s = go (judgement room g s)
+  where
+    go : (a : Asked) → isAccepted a ≡ false → after g a ≡ g
+    go (Silent k) e = refl
+    go (Error k) e = refl
+    go (Accepted r) e = absurd (true≢false e)
+
+-- no request changes the pressure
+pub pressure-stays : (room : ℕ) (g : Gauge) (s : List ℕ) → afterOf room g s .pressure ≡ g .pressure
+unfolding afterOf after
+pressure-stays room g s = go (judgement room g s)
+  where
+    go : (a : Asked) → after g a .pressure ≡ g .pressure
+    go (Silent k) = refl
+    go (Error k) = refl
+    go (Accepted r) = refl
+
+-- ---- limits
+
+-- settings within their limits
+unfoldable pub sound : Settings → Bool
+sound s = within unitLow unitHigh (s .unit) && (leb (s .mode) modeHigh && leb (s .gas) gasHigh)
+
+pub factory-sound : sound factory ≡ true
+unfolding sound within
+factory-sound = refl
+
+-- a request without a value outside keeps them there
+module _ (s : Settings) (h : sound s ≡ true) where
+  unit-sound : within unitLow unitHigh (s .unit) ≡ true
+  unfolding sound
+  unit-sound = and-eq-true-iff (within unitLow unitHigh (s .unit)) (leb (s .mode) modeHigh && leb (s .gas) gasHigh) .0 h .0
+
+  rest-sound : (leb (s .mode) modeHigh && leb (s .gas) gasHigh) ≡ true
+  unfolding sound
+  rest-sound = and-eq-true-iff (within unitLow unitHigh (s .unit)) (leb (s .mode) modeHigh && leb (s .gas) gasHigh) .0 h .1
+
+  entered-sound : (r : Request) → outsideOf r ≡ false → sound (entered s r) ≡ true
+  unfolding sound entered outsideOf
+  entered-sound (ReadPressure u) o = h
+  entered-sound ReadUnit o = h
+  entered-sound (WriteUnit u) o = rw (not-false (within unitLow unitHigh u) o) rest-sound
+  entered-sound DetectionOff o = rw unit-sound (and-eq-true-iff (leb (s .mode) modeHigh) (leb (s .gas) gasHigh) .0 rest-sound .1)
+  entered-sound (DetectionOn n gas) o = rw unit-sound (le-leb gas gasHigh (within-true 0 gasHigh gas (not-false (within 0 gasHigh gas) o) .1))
+
+-- where no row's test holds, none of the rows behind the first k holds
+none-drop : (k : ℕ) (rows : List (Row Asked)) → none rows ≡ true → none (drop k rows) ≡ true
+unfolding none
+none-drop zero rows e = e
+none-drop (suc k) [] e = refl
+none-drop (suc k) ((t ⇒ a) ∷ rows) e = none-drop k rows (and-eq-true-iff (not t) (none rows) .0 e .1)
+
+second-false : (a b : Bool) → (a || b) ≡ false → b ≡ false
+second-false true b e = absurd (true≢false e)
+second-false false b e = e
+
+inside : (room : ℕ) (g : Gauge) (s : List ℕ) → none (rowsOf room g s) ≡ true → outsideOf (meaning s) ≡ false
+unfolding none outside
+inside room g s n =
+    let last = none-drop 11 (rowsOf room g s) n in
+    second-false (wrongMode s) (outsideOf (meaning s)) (not-true (outside s) (and-eq-true-iff (not (outside s)) (not (unavailable g (meaning s)) && true) .0 last .0))
+
+-- settings stay within their limits, whatever is asked
+pub stays-sound : (room : ℕ) (g : Gauge) (s : List ℕ) → sound (g .settings) ≡ true → sound (afterOf room g s .settings) ≡ true
+unfolding afterOf after judgement
+stays-sound room g s h =
+    gives
+    (λ (a : Asked). sound (after g a .settings) ≡ true)
+    (rowsOf room g s)
+    (Accepted (meaning s))
+    (h, (h, (h, (h, (h, (h, (h, (h, (h, (h, (h, (h, (h, refl)))))))))))))
+    (λ n. entered-sound (g .settings) h (meaning s) (inside room g s n))

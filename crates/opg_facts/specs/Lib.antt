@@ -1,0 +1,6 @@
+-- What follows from the definitions of the OPG.
+pub mod ReadBack
+pub mod Accepted
+pub mod Finite
+pub mod Answered
+pub mod Examples

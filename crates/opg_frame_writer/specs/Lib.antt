@@ -1,0 +1,2 @@
+-- Document 01, "OPG frames": the bytes of a frame.
+pub mod Written

@@ -1,0 +1,83 @@
+-- Document 01, "The master's side": any bytes read as the reply to a request, or the first refusal that applies. Assumes nothing.
+use mathlib.Core.Bool.{Bool, not, _&&_, _||_}
+use mathlib.Core.List.{List, [], _∷_}
+use Prim.Native.Nat.{ℕ}
+use lib.Dec.{eqb}
+use lib.Ieee.{binary32, ofBits, toBits}
+use Rattle.buffer.specs.First.{Row, _⇒_, first, pick}
+use Rattle.buffer.specs.Byte.{within}
+use Rattle.opg_frames.specs.Frame.{misshapen, foreign, wrongCrc, wrongVersion, acknowledges, indexed, cmdOf, pidOf, countOf, dataAt}
+use Rattle.opg_units.specs.Units.{finite}
+use Rattle.opg_commands.specs.Limits.{unitLow, unitHigh}
+use Rattle.opg_commands.specs.Request.{wordAt, requestPid, replyCmd, replyCount}
+use Rattle.opg_commands.specs.declared.Request.{Request}
+use Rattle.opg_commands.specs.declared.Request.the-variants.{ReadPressure, ReadUnit, WriteUnit, DetectionOff, DetectionOn}
+use Rattle.opg_replies.specs.declared.Reply.{Reply}
+use Rattle.opg_replies.specs.declared.Reply.the-variants.{Pressure, Unit, Done, Error}
+use Rattle.opg_replies.specs.declared.Reading.{Reading}
+use Rattle.opg_replies.specs.declared.Reading.the-variants.{Refused, Read}
+use Rattle.opg_replies.specs.declared.Measured.{Measured}
+use Rattle.opg_replies.specs.declared.Measured.the-variants as M
+use Rattle.opg_replies.specs.declared.UnitRead.{UnitRead}
+use Rattle.opg_replies.specs.declared.UnitRead.the-variants as U
+
+-- "An error reply has PID 0xFFFF"
+unfoldable pub isError : List ℕ → Bool
+isError s = eqb (pidOf s) 0xffff
+
+-- "26 CMD not the request's plus 1, IDX not 0, or PID neither the request's nor 0xFFFF"
+unfoldable pub otherReply : Request → List ℕ → Bool
+otherReply r s = not (eqb (cmdOf s) (replyCmd r)) || (indexed s || (not (isError s) && not (eqb (pidOf s) (requestPid r))))
+
+-- "27 data length": an error has one byte
+unfoldable pub neededOf : Request → List ℕ → ℕ
+neededOf r s = pick (isError s) 1 (replyCount r)
+
+unfoldable pub wrongCount : Request → List ℕ → Bool
+wrongCount r s = not (eqb (countOf s) (neededOf r s))
+
+-- "28 a unit outside 1 to 4, or a pressure that is not finite"; the pressure is the f32 of the four bytes, high byte first
+unfoldable pub valueOf : Request → List ℕ → Reading
+valueOf (ReadPressure u) s = pick (not (finite (wordAt s 10))) (Refused 28) (Read (Pressure (ofBits binary32 (wordAt s 10))))
+valueOf ReadUnit s = pick (not (within unitLow unitHigh (dataAt s 0))) (Refused 28) (Read (Unit (dataAt s 0)))
+valueOf (WriteUnit u) s = Read Done
+valueOf DetectionOff s = Read Done
+valueOf (DetectionOn n gas) s = Read Done
+
+-- "22 length or reserved bits; 23 ADDR not 0 or ID not 0x0B; 24 CRC; 25 version, or acknowledge clear; 26 ..; 27 ..", then an error's byte
+abbrev pub replyRows : Request → List ℕ → List (Row Reading)
+replyRows r s =
+    misshapen s ⇒ Refused 22
+    ∷ foreign 0x0b s ⇒ Refused 23
+    ∷ wrongCrc s ⇒ Refused 24
+    ∷ wrongVersion s ⇒ Refused 25
+    ∷ not (acknowledges s) ⇒ Refused 25
+    ∷ otherReply r s ⇒ Refused 26
+    ∷ wrongCount r s ⇒ Refused 27
+    ∷ isError s ⇒ Read (Error (dataAt s 0))
+    ∷ []
+
+unfoldable pub readingOf : Request → List ℕ → Reading
+readingOf r s = first (replyRows r s) (valueOf r s)
+
+-- document 01's number and values for each answer: a refusal's number; or 20, the kind (1 a pressure, 2 a unit, 3 a done, 4 an error) and
+-- the value: a pressure's 32 bits, a unit, an error's byte
+unfoldable pub readingShown : Reading → List ℕ
+readingShown (Refused k) = k ∷ []
+readingShown (Read (Pressure p)) = 20 ∷ 1 ∷ toBits binary32 p ∷ []
+readingShown (Read (Unit u)) = 20 ∷ 2 ∷ u ∷ []
+readingShown (Read Done) = 20 ∷ 3 ∷ []
+readingShown (Read (Error e)) = 20 ∷ 4 ∷ e ∷ []
+
+-- the expected case of a decoded reply; any other is none to the request: 26
+unfoldable pub measuredOf : Reply → Measured
+measuredOf (Pressure p) = M.Value p
+measuredOf (Unit u) = M.Refused 26
+measuredOf Done = M.Refused 26
+measuredOf (Error e) = M.Refused 26
+
+unfoldable pub unitReadOf : Reply → UnitRead
+unitReadOf (Pressure p) = U.Refused 26
+unitReadOf (Unit u) = U.Value u
+unitReadOf Done = U.Refused 26
+unitReadOf (Error e) = U.Refused 26

@@ -23,6 +23,8 @@ use Rattle.forms.specs.declared.Digit.{Digit}
 use Rattle.forms.specs.declared.Digit.the-variants.{Is, Isnt}
 use Rattle.forms.specs.declared.Limited.{Limited}
 use Rattle.forms.specs.declared.Limited.the-variants.{Fine, Bad}
+use Rattle.forms.specs.declared.Ends.{Ends}
+use Rattle.forms.specs.declared.Ends.the-variants.{None, One, Two}
 use Rattle.forms.specs.declared.Verdict.{Verdict}
 use Rattle.forms.specs.declared.Verdict.the-variants.{Set, Refused}
 
@@ -93,17 +95,25 @@ betweenOf (Fine low) (Bad k) = Refused k
 betweenOf (Bad j) (Fine high) = Refused j
 betweenOf (Bad j) (Bad k) = Refused (min j k)
 
--- ST: "`D` number, or `F` number `T` number"
-unfoldable pub transitionData : List ℕ → Verdict
-transitionData s =
+-- ST: "`D` number, or `F` number `T` number", each judged by itself
+unfoldable pub endsOf : List ℕ → Ends
+endsOf s =
     let t = drop 1 s in
     let k = untilOf 84 t in
     first
-    (startsWith 68 s ⇒ directOf (limitedOf (numberOf t))
-    ∷ not (standard .betweenForm && startsWith 70 s) ⇒ Refused 10
-    ∷ leb (length t) k ⇒ Refused 10
+    (startsWith 68 s ⇒ One (limitedOf (numberOf t))
+    ∷ not (standard .betweenForm && startsWith 70 s) ⇒ None
+    ∷ leb (length t) k ⇒ None
     ∷ [])
-    (betweenOf (limitedOf (numberOf (take k t))) (limitedOf (numberOf (drop (k + 1) t))))
+    (Two (limitedOf (numberOf (take k t))) (limitedOf (numberOf (drop (k + 1) t))))
+
+unfoldable pub transitionOf : Ends → Verdict
+transitionOf None = Refused 10
+transitionOf (One n) = directOf n
+transitionOf (Two low high) = betweenOf low high
+
+unfoldable pub transitionData : List ℕ → Verdict
+transitionData s = transitionOf (endsOf s)
 
 -- SM: "`0` off, or `4` and up to seven sources". "`0` with a list is SYNTAX"
 unfoldable pub idleList : List ℕ → Bool

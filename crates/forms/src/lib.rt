@@ -8,7 +8,7 @@ ghost use Rattle.sources.specs.Source.{listOf};
 ghost use Rattle.settings.specs.Limits.{standard};
 ghost use Rattle.settings.specs.declared.Key.{Key};
 ghost use Rattle.settings.specs.declared.Setting.{Setting};
-ghost use Rattle.forms.specs.Forms.{addressData, unitData, factorIn, factorOf, digitData, digitOf, limitedOf, directOf, betweenOf, transitionData, idleList, knownMode, streamOf};
+ghost use Rattle.forms.specs.Forms.{addressData, unitData, factorIn, factorOf, digitData, digitOf, limitedOf, directOf, betweenOf, endsOf, transitionOf, transitionData, idleList, knownMode, streamOf};
 ghost use Rattle.forms.specs.Judged.{Judges};
 
 // What a write's data are: a setting with its value, or the refusal's number.
@@ -33,6 +33,13 @@ pub enum Digit {
 pub enum Limited {
     Fine(decimal::Number),
     Bad(u8),
+}
+
+// The numbers of ST's data: neither form, one number, or two.
+pub enum Ends {
+    None,
+    One(Limited),
+    Two(Limited, Limited),
 }
 
 // DA.
@@ -74,7 +81,8 @@ pub fn judge_unit(s: &[u8]) -> Verdict
     Verdict::Refused(10)
 }
 
-fn factor_in(h: decimal::Hundredths) -> Verdict
+// Hundredths as a factor, within its limits.
+pub fn factor_in(h: decimal::Hundredths) -> Verdict
     ensures { λ r. ⌜ r ≡ factorIn h ⌝ }
 {
     let decimal::Hundredths::Whole(n) = h else {
@@ -160,7 +168,7 @@ pub fn judge_filament(s: &[u8]) -> Verdict
 }
 
 // A number of ST, within its limits.
-fn in_limits(p: decimal::Parsed) -> Limited
+pub fn in_limits(p: decimal::Parsed) -> Limited
     ensures { λ r. ⌜ r ≡ limitedOf p ⌝ }
 {
     match p {
@@ -216,24 +224,42 @@ fn between(low: Limited, high: Limited) -> Verdict
     }
 }
 
+// The numbers of ST's data.
+pub fn read_ends(s: &[u8]) -> Ends
+    ensures { λ r. ⌜ r ≡ endsOf (now (s .entry)) ⌝ }
+{
+    let t = buffer::rest(s, 1);
+    if decimal::starts_with(s, b'D') {
+        return Ends::One(in_limits(decimal::read_number(t)));
+    }
+    if !decimal::starts_with(s, b'F') {
+        return Ends::None;
+    }
+    let k = buffer::until(t, b'T');
+    if t.len() <= k {
+        return Ends::None;
+    }
+    let low = in_limits(decimal::read_number(&t[..k]));
+    let high = in_limits(decimal::read_number(buffer::rest(t, k + 1)));
+    Ends::Two(low, high)
+}
+
+// The numbers of ST as a setting.
+pub fn judge_ends(ends: Ends) -> Verdict
+    ensures { λ r. ⌜ r ≡ transitionOf ends ⌝ }
+{
+    match ends {
+        Ends::None => Verdict::Refused(10),
+        Ends::One(n) => direct(n),
+        Ends::Two(low, high) => between(low, high),
+    }
+}
+
 // ST.
 pub fn judge_transition(s: &[u8]) -> Verdict
     ensures { λ r. ⌜ r ≡ transitionData (now (s .entry)) ⌝ }
 {
-    let t = buffer::rest(s, 1);
-    if decimal::starts_with(s, b'D') {
-        return direct(in_limits(decimal::read_number(t)));
-    }
-    if !decimal::starts_with(s, b'F') {
-        return Verdict::Refused(10);
-    }
-    let k = buffer::until(t, b'T');
-    if t.len() <= k {
-        return Verdict::Refused(10);
-    }
-    let low = in_limits(decimal::read_number(&t[..k]));
-    let high = in_limits(decimal::read_number(buffer::rest(t, k + 1)));
-    between(low, high)
+    judge_ends(read_ends(s))
 }
 
 fn refused(number: u8) -> Judged

@@ -3,13 +3,14 @@ use mathlib.Core.Path.{_≡_}
 use mathlib.Core.List.{List}
 use mathlib.Core.Logic.{_↔_}
 use Prim.Native.Nat.{ℕ}
+use Rattle.settings.specs.Settings.{keyOf}
 use Rattle.settings.specs.declared.Key.{Key}
 use Rattle.settings.specs.declared.Setting.{Setting}
 use Rattle.forms.specs.Judged.{verdictOf}
 use Rattle.forms.specs.declared.Verdict.the-variants.{Set}
 use Rattle.forms_facts.specs.Within.{accepted-sound}
 use Rattle.forms_facts.specs.Sound.{Sound}
-use Rattle.forms_facts.specs.Form.{keyOf, Form}
+use Rattle.forms_facts.specs.Form.{Form}
 use Rattle.forms_facts.specs.Lemmas.Formed.{formed, is-set}
 
 -- data are accepted as a setting exactly where it is the command's, the text has its form, and it is within the limits

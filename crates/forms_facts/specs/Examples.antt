@@ -17,7 +17,7 @@ use Rattle.settings.specs.Settings.{factory, putOf}
 use Rattle.settings.specs.Sent.{unitText, transitionText, streamText, readText}
 use Rattle.settings.specs.declared.Key.{Key}
 use Rattle.settings.specs.declared.Key.the-variants.{DA, DU, C1, CM, CC, FC, ST, SM}
-use Rattle.forms.specs.Forms.{addressData, unitData, factorIn, factorOf, digitData, digitOf, limitedOf, directOf, betweenOf, transitionData, idleList, knownMode, streamOf, streamData}
+use Rattle.forms.specs.Forms.{addressData, unitData, factorIn, factorOf, digitData, digitOf, limitedOf, directOf, betweenOf, endsOf, transitionOf, transitionData, idleList, knownMode, streamOf, streamData}
 use Rattle.forms.specs.Judged.{verdictOf, verdictNumber, ifSet, listIn}
 use Rattle.forms.specs.declared.Verdict.{Verdict}
 use Rattle.forms.specs.declared.Verdict.the-variants.{Set, Refused}
@@ -124,7 +124,7 @@ right c = eqb (verdictNumber (verdictOf (c .key) (c .text))) (c .number)
 
 -- each case has the paper's answer
 pub all-right : every right cases ≡ true
-unfolding bytes verdictOf addressData unitData factorIn factorOf digitData digitOf limitedOf directOf betweenOf transitionData idleList knownMode streamOf streamData numberOf answerOf scanOf unsignedOf fractionOf exponentOf powerOf leading startsWith normalOf sizeOf units plus minus belowOf countedOf hundredthsOf sourceText isSource findSource sourceOf onto parts sourceTexts entriesOf opens entriesNumber unitText within every sameText untilOf numeralFrom pick
+unfolding bytes verdictOf addressData unitData factorIn factorOf digitData digitOf limitedOf directOf betweenOf endsOf transitionOf transitionData idleList knownMode streamOf streamData numberOf answerOf scanOf unsignedOf fractionOf exponentOf powerOf leading startsWith normalOf sizeOf units plus minus belowOf countedOf hundredthsOf sourceText isSource findSource sourceOf onto parts sourceTexts entriesOf opens entriesNumber unitText within every sameText untilOf numeralFrom pick
 all-right = refl
 
 -- a write's data to a gauge at factory settings, and what a read then sends
@@ -164,5 +164,5 @@ well c = sameText (sentAfter (c .key) (c .text) (verdictOf (c .key) (c .text))) 
 
 -- each write is then read as the paper says
 pub all-sent : every well sends ≡ true
-unfolding bytes verdictOf addressData unitData factorIn factorOf digitData digitOf limitedOf directOf betweenOf transitionData idleList knownMode streamOf streamData numberOf answerOf scanOf unsignedOf fractionOf exponentOf powerOf leading startsWith normalOf sizeOf units plus minus belowOf countedOf hundredthsOf sourceText isSource findSource sourceOf onto parts sourceTexts entriesOf opens entriesNumber unitText within every sameText untilOf numeralFrom pick ifSet listIn entriesList putOf readText transitionText streamText listOf listText writtenOf signText trimmed pointed exponentText wholeText twoDecimals
+unfolding bytes verdictOf addressData unitData factorIn factorOf digitData digitOf limitedOf directOf betweenOf endsOf transitionOf transitionData idleList knownMode streamOf streamData numberOf answerOf scanOf unsignedOf fractionOf exponentOf powerOf leading startsWith normalOf sizeOf units plus minus belowOf countedOf hundredthsOf sourceText isSource findSource sourceOf onto parts sourceTexts entriesOf opens entriesNumber unitText within every sameText untilOf numeralFrom pick ifSet listIn entriesList putOf readText transitionText streamText listOf listText writtenOf signText trimmed pointed exponentText wholeText twoDecimals
 all-sent = refl

@@ -10,22 +10,9 @@ use Rattle.decimal.specs.declared.Number.{Number}
 use Rattle.decimal.specs.declared.Parsed.the-variants.{Value}
 use Rattle.settings.specs.Sent.{unitText, streamText}
 use Rattle.settings.specs.declared.Transition.the-variants.{Direct, Between}
-use Rattle.settings.specs.declared.Key.{Key}
-use Rattle.settings.specs.declared.Key.the-variants.{DA, DU, C1, CM, CC, FC, ST, SM}
 use Rattle.settings.specs.declared.Setting.{Setting}
 use Rattle.settings.specs.declared.Setting.the-variants.{Address, PressureIn, Factor, Control, Cathode, Filament, Switch, Stream}
 use Rattle.forms_facts.specs.Codes.{Short}
-
--- the command of a setting
-abbrev pub keyOf : Setting → Key
-keyOf (Address v) = DA
-keyOf (PressureIn u) = DU
-keyOf (Factor h) = C1
-keyOf (Control d) = CM
-keyOf (Cathode d) = CC
-keyOf (Filament d) = FC
-keyOf (Switch t) = ST
-keyOf (Stream on) = SM
 
 -- the text has the form of the column "Data", with this value: three digits; a unit's text; a number of h hundredths (units are 10^-14);
 -- one digit; `D` number, or `F` number `T` number; the mode, with a list if it is 4

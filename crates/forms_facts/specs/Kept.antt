@@ -37,7 +37,7 @@ factory-sound =
     }
 
 -- one setting set to what is sound
-put-sound : (s : Held) (x : Setting) (list : List ℕ) → SoundSettings s → Sound x → Short list → SoundSettings (putOf s x list)
+pub put-sound : (s : Held) (x : Setting) (list : List ℕ) → SoundSettings s → Sound x → Short list → SoundSettings (putOf s x list)
 unfolding putOf
 put-sound s (Address v) list f h k = record { address = h; factor = f .factor; control = f .control; cathode = f .cathode; filament = f .filament; transition = f .transition; list = f .list }
 put-sound s (PressureIn v) list f h k = record { address = f .address; factor = f .factor; control = f .control; cathode = f .cathode; filament = f .filament; transition = f .transition; list = f .list }

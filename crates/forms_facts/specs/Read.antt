@@ -7,7 +7,7 @@ use native.Mathlib.Omega.{arith}
 use Rattle.buffer.specs.Byte.{digit}
 use Rattle.decimal_text.specs.Written.{writtenOf, twoDecimals}
 use Rattle.decimal_facts.specs.RoundTrip.{written-reads, hundredths-read}
-use Rattle.settings.specs.Settings.{Held}
+use Rattle.settings.specs.Settings.{Held, keyOf}
 use Rattle.settings.specs.Sent.{transitionText, streamText, readText}
 use Rattle.settings.specs.declared.Transition.{Transition}
 use Rattle.settings.specs.declared.Transition.the-variants.{Direct, Between}
@@ -18,7 +18,7 @@ use Rattle.settings.specs.declared.Setting.the-variants.{Address, PressureIn, F
 use Rattle.forms.specs.Judged.{verdictOf, ifSet, listIn}
 use Rattle.forms.specs.declared.Verdict.the-variants.{Set}
 use Rattle.forms_facts.specs.Sound.{Sound, SoundSettings}
-use Rattle.forms_facts.specs.Form.{keyOf, Form}
+use Rattle.forms_facts.specs.Form.{Form}
 use Rattle.forms_facts.specs.Exactly.{accepted-exactly}
 use Rattle.forms_facts.specs.Lemmas.Numbers.{of-hundredths}
 use Rattle.forms_facts.specs.Lemmas.Texts.{list-again}

@@ -1,17 +1,20 @@
 -- Laws of frames that are written. Assumes nothing.
-use mathlib.Core.Path.{_≡_, sym, _∙_}
+use mathlib.Core.Path.{_≡_, sym, ap, _∙_}
 use mathlib.Core.Bool.{true, false, not}
-use mathlib.Core.List.{List, _++_}
+use mathlib.Core.List.{List, [], _∷_, _++_}
 use Prim.Native.Nat.{ℕ, _+_, _<_, _≤_}
 use native.Mathlib.Nat.{zero-add}
 use native.Mathlib.Omega.{arith}
 use lib.ListN.{length, take, length-append}
-use Rattle.buffer.specs.Byte.{within}
-use Rattle.buffer.specs.Answer.{silent, Stored}
+use Rattle.buffer.specs.Byte.{within, digits2, digits3}
+use Rattle.buffer.specs.Answer.{silent, Stored, Sent}
+use Rattle.buffer.specs.declared.Written.{Written}
 use Rattle.buffer.proofs.Laws.{then, front}
 use Rattle.buffer.proofs.Rules.{rules}
 use Rattle.frames.specs.Checksum.{endOf, closed}
-use Rattle.frame_writer.specs.Written.{frameWritten}
+use Rattle.frames.specs.declared.HeadV1.{HeadV1}
+use Rattle.frames.specs.declared.HeadV2.{HeadV2}
+use Rattle.frame_writer.specs.Written.{frameWritten, frameV1, frameV2, writtenV1, writtenV2}
 
 pub length-closed : (head bytes : List ℕ) → length (closed (head ++ bytes)) ≡ length head + length bytes + 2
 unfolding closed endOf
@@ -40,3 +43,26 @@ module _ (room most address : ℕ) (bytes frame : List ℕ) where
       → frameWritten room most address bytes frame ≡ record { number = 0; reply = frame }
   unfolding frameWritten
   written h k o = sym (search rules)
+
+-- ---- frames that fit are written whole
+
+pub length-v2 : (h : HeadV2) (bytes : List ℕ) → length (frameV2 h bytes) ≡ 10 + length bytes
+unfolding frameV2
+length-v2 h bytes =
+    let e = length-closed (digits3 (h .address) ++ (h .access ∷ h .first ∷ h .second ∷ []) ++ digits2 (length bytes)) bytes in
+    omega (arith, e)
+
+pub length-v1 : (h : HeadV1) (bytes : List ℕ) → length (frameV1 h bytes) ≡ 6 + length bytes
+unfolding frameV1
+length-v1 h bytes =
+    let e = length-closed (digits3 (h .address) ++ (h .letter ∷ [])) bytes in
+    omega (arith, e)
+
+module _ (m m′ bytes : List ℕ) (w : Written) where
+  pub sent-v2 : (h : HeadV2) → 10 + length bytes ≤ length m → length bytes ≤ 99 → within 1 999 (h .address) ≡ true → Sent m (writtenV2 (length m) h bytes) m′ w
+      → Sent m (record { number = 0; reply = frameV2 h bytes }) m′ w
+  sent-v2 h r n a s = rw (written (length m) 99 (h .address) bytes (frameV2 h bytes) (omega (arith, length-v2 h bytes)) n (ap not a)) at s
+
+  pub sent-v1 : (h : HeadV1) → 6 + length bytes ≤ length m → length bytes ≤ 6 → within 1 999 (h .address) ≡ true → Sent m (writtenV1 (length m) h bytes) m′ w
+      → Sent m (record { number = 0; reply = frameV1 h bytes }) m′ w
+  sent-v1 h r n a s = rw (written (length m) 6 (h .address) bytes (frameV1 h bytes) (omega (arith, length-v1 h bytes)) n (ap not a)) at s

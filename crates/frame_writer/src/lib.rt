@@ -4,8 +4,9 @@ ghost use mathlib.Core.Path.{_≡_};
 ghost use mathlib.Core.List.{_++_};
 ghost use Prim.Native.Nat.{_≤_};
 ghost use lib.ListN.{length, take};
-ghost use Rattle.buffer.specs.Byte.{within};
+ghost use Rattle.buffer.specs.Byte.{within, sameText};
 ghost use Rattle.buffer.specs.Answer.{Stored, Sent};
+ghost use Rattle.buffer.specs.Text.{textOf};
 ghost use Rattle.frames.specs.Checksum.{endOf, closed};
 ghost use Rattle.frame_writer.specs.Written.{frameWritten, writtenV2, writtenV1};
 ghost use Rattle.frame_writer.specs.Error.{errorBytes, errorOf, errorHeadV2, errorHeadV1, errorDataV1};
@@ -93,6 +94,25 @@ pub fn write_v1(out: &mut [u8], head: frames::HeadV1, bytes: &[u8]) -> buffer::W
     write_frame(out, address, &start, bytes, 6)
 }
 
+// Writes a V2 frame whose data are a short text.
+pub fn write_text_v2(out: &mut [u8], head: frames::HeadV2, text: buffer::Text) -> buffer::Written
+    ensures { λ r. ⌜ Sent (now (out .entry)) (writtenV2 (length (now (out .entry))) head (textOf text)) (now (out .exit)) r ⌝ }
+    ensures { λ r. ⌜ length (textOf text) ≤ 24 ⌝ }
+{
+    let n = text.size();
+    let bytes = text.bytes;
+    write_v2(out, head, &bytes[..n])
+}
+
+// Writes a V1 frame whose data are a short text.
+pub fn write_text_v1(out: &mut [u8], head: frames::HeadV1, text: buffer::Text) -> buffer::Written
+    ensures { λ r. ⌜ Sent (now (out .entry)) (writtenV1 (length (now (out .entry))) head (textOf text)) (now (out .exit)) r ⌝ }
+{
+    let n = text.size();
+    let bytes = text.bytes;
+    write_v1(out, head, &bytes[..n])
+}
+
 // ---- error frames
 
 // The six error texts of V2.
@@ -117,6 +137,14 @@ pub fn error_bytes(e: ErrorText) -> [u8; 6]
         ErrorText::Range => [b'_', b'R', b'A', b'N', b'G', b'E'],
         ErrorText::Error1 => [b'E', b'R', b'R', b'O', b'R', b'1'],
     }
+}
+
+// Whether a text is this error text.
+pub fn is_error_text(s: &[u8], e: ErrorText) -> bool
+    ensures { λ r. ⌜ r ≡ sameText (now (s .entry)) (errorBytes e) ⌝ }
+{
+    let text = error_bytes(e);
+    buffer::is_same(s, &text)
 }
 
 // The error text of an answer number from 6 to 13.

@@ -45,7 +45,8 @@ pub enum Frame {
     V2(HeadV2),
 }
 
-fn is_letter(b: u8) -> bool
+// Whether a byte is a letter A-Z or a-z.
+pub fn is_letter(b: u8) -> bool
     ensures { λ r. ⌜ r ≡ isLetter b ⌝ }
 {
     if buffer::is_within(b, 65, 90) {

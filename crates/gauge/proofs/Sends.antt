@@ -1,11 +1,9 @@
 -- Replies that fit are written whole. Assumes nothing.
-use mathlib.Core.Path.{_≡_, refl, ap}
-use mathlib.Core.Bool.{not}
-use mathlib.Core.List.{List, [], _∷_, _++_}
-use Prim.Native.Nat.{ℕ, _+_, _≤_}
+use mathlib.Core.Path.{refl}
+use mathlib.Core.List.{List}
+use Prim.Native.Nat.{ℕ, _≤_}
 use native.Mathlib.Omega.{arith}
 use lib.ListN.{length}
-use Rattle.buffer.specs.Byte.{digits2, digits3}
 use Rattle.buffer.specs.Answer.{Sent}
 use Rattle.buffer.specs.declared.Written.{Written}
 use Rattle.buffer.proofs.Rules.{each}
@@ -15,7 +13,7 @@ use Rattle.frame_writer.specs.Written.{frameV1, frameV2, writtenV1, writtenV2}
 use Rattle.frame_writer.specs.Error.{errorBytes, errorDataV1}
 use Rattle.frame_writer.specs.declared.ErrorText.{ErrorText}
 use Rattle.frame_writer.specs.declared.ErrorText.the-variants.{Length, Logic, NoDef, Syntax, Range, Error1}
-use Rattle.frame_writer.proofs.Laws.{length-closed, written}
+use Rattle.frame_writer.proofs.Laws as laws
 use Rattle.decimal.specs.declared.Number.{Number}
 use Rattle.readings.specs.Measure.{sixOf, roundedText, measureText}
 use Rattle.readings.specs.declared.Pressure.{Pressure}
@@ -30,29 +28,15 @@ use Rattle.gauge.specs.Inner.{Fits}
 pub renumbered : (m m′ t : List ℕ) (k : ℕ) (w : Written) → Sent m (record { number = 0; reply = t }) m′ w → Sent m (record { number = k; reply = t }) m′ (record { number = k; len = w .len })
 renumbered m m′ t k w h = record { number = refl; len = h .len; memory = h .memory }
 
-length-v2 : (h : HeadV2) (bytes : List ℕ) → length (frameV2 h bytes) ≡ 10 + length bytes
-unfolding frameV2
-length-v2 h bytes =
-    let e = length-closed (digits3 (h .address) ++ (h .access ∷ h .first ∷ h .second ∷ []) ++ digits2 (length bytes)) bytes in
-    omega (arith, e)
-
-length-v1 : (h : HeadV1) (bytes : List ℕ) → length (frameV1 h bytes) ≡ 6 + length bytes
-unfolding frameV1
-length-v1 h bytes =
-    let e = length-closed (digits3 (h .address) ++ (h .letter ∷ [])) bytes in
-    omega (arith, e)
-
 -- a V2 frame with at most 24 data
 pub sent-v2 : (m m′ : List ℕ) (h : HeadV2) (bytes : List ℕ) (w : Written) → Fits (h .address) m → length bytes ≤ 24 → Sent m (writtenV2 (length m) h bytes) m′ w
     → Sent m (record { number = 0; reply = frameV2 h bytes }) m′ w
-sent-v2 m m′ h bytes w f n s =
-    rw (written (length m) 99 (h .address) bytes (frameV2 h bytes) (omega (arith, length-v2 h bytes, f .room)) (omega arith) (ap not (f .sendable))) at s
+sent-v2 m m′ h bytes w f n s = laws.sent-v2 m m′ bytes w h (omega (arith, f .room)) (omega arith) (f .sendable) s
 
 -- a V1 frame with at most six
 pub sent-v1 : (m m′ : List ℕ) (h : HeadV1) (bytes : List ℕ) (w : Written) → Fits (h .address) m → length bytes ≤ 6 → Sent m (writtenV1 (length m) h bytes) m′ w
     → Sent m (record { number = 0; reply = frameV1 h bytes }) m′ w
-sent-v1 m m′ h bytes w f n s =
-    rw (written (length m) 6 (h .address) bytes (frameV1 h bytes) (omega (arith, length-v1 h bytes, f .room)) (omega arith) (ap not (f .sendable))) at s
+sent-v1 m m′ h bytes w f n s = laws.sent-v1 m m′ bytes w h (omega (arith, f .room)) n (f .sendable) s
 
 -- ---- lengths of data
 

@@ -50,15 +50,13 @@ fn reply_v2(out: &mut [u8], head: frames::HeadV2, access: u8, text: buffer::Text
     requires { ⌜ Fits (head .address) (now out) ⌝ }
     ensures { λ r. ⌜ Sent (now (out .entry)) (record { number = 0; reply = frameV2 (answerHead head access) (textOf text) }) (now (out .exit)) r ⌝ }
 {
-    let n = text.size();
-    let bytes = text.bytes;
     let answer = frames::HeadV2 {
         address: head.address,
         access,
         first: head.first,
         second: head.second,
     };
-    frame_writer::write_v2(out, answer, &bytes[..n])
+    frame_writer::write_text_v2(out, answer, text)
 }
 
 // Writes the error frame that answers a V1 request.
@@ -79,9 +77,7 @@ fn reply_v1(out: &mut [u8], head: frames::HeadV1, text: buffer::Text) -> buffer:
     requires { ⌜ length (textOf text) ≤ 6 ⌝ }
     ensures { λ r. ⌜ Sent (now (out .entry)) (record { number = 0; reply = frameV1 head (textOf text) }) (now (out .exit)) r ⌝ }
 {
-    let n = text.size();
-    let bytes = text.bytes;
-    frame_writer::write_v1(out, head, &bytes[..n])
+    frame_writer::write_text_v1(out, head, text)
 }
 
 // Writes the request again.

@@ -19,15 +19,8 @@ use Rattle.frame_writer.specs.Written.{frameV1, frameV2}
 use Rattle.frame_writer.specs.Error.{errorOf, errorBytes, errorDataV1}
 use Rattle.frame_writer.specs.declared.ErrorText.{ErrorText}
 use Rattle.frame_writer.specs.declared.ErrorText.the-variants.{Length, Logic, NoDef, Syntax, Range, Error1}
-use Rattle.decimal_text.proofs.Laws.{two-le}
 use Rattle.sources.specs.Source.{mostEntries}
-use Rattle.sources.proofs.Laws.{list-text-le}
-use Rattle.settings.specs.Sent.{unitText, streamText, readText}
-use Rattle.settings.specs.declared.PressureUnit.{PressureUnit}
-use Rattle.settings.specs.declared.PressureUnit.the-variants.{Mbar, Torr, HPa}
-use Rattle.settings.specs.declared.Key.{Key}
-use Rattle.settings.specs.declared.Key.the-variants.{DA, DU, C1, CM, CC, FC, ST, SM}
-use Rattle.settings.proofs.Laws.{transition-le}
+use Rattle.printed_facts.specs.Fits.{read-le}
 use Rattle.readings.specs.Reading.{valueText}
 use Rattle.readings.specs.Measure.{sixOf, roundedText, measureText}
 use Rattle.readings.specs.declared.Pressure.{Pressure}
@@ -62,7 +55,7 @@ length-v1 h d = simp length-append (omega arith)
 
 -- ---- errors
 
-error-le : (e : ErrorText) → length (errorBytes e) ≤ 6
+pub error-le : (e : ErrorText) → length (errorBytes e) ≤ 6
 unfolding errorBytes
 error-le Length = omega arith
 error-le Logic = omega arith
@@ -101,38 +94,16 @@ text-v1-le g (SetUnit u) = omega arith
 
 -- ---- V2's data; few says that a list has at most seven sources, as every accepted list has
 
-unit-le : (u : PressureUnit) → length (unitText u) ≤ 4
-unfolding unitText
-unit-le Mbar = omega arith
-unit-le Torr = omega arith
-unit-le HPa = omega arith
-
-stream-le : (on : Bool) (list : List ℕ) → length list ≤ mostEntries → length (streamText on list) ≤ 22
-unfolding streamText
-stream-le true list few = simp length-append (omega (arith, list-text-le list))
-stream-le false list few = omega arith
-
 module _ (g : State) (few : length (g .settings .list) ≤ mostEntries) where
-  read-le : (key : Key) → length (readText key (g .settings)) ≤ 24
-  unfolding readText
-  read-le DA = omega arith
-  read-le DU = omega (arith, unit-le (g .settings .unit))
-  read-le C1 = omega (arith, two-le false (g .settings .factor))
-  read-le CM = omega arith
-  read-le CC = omega arith
-  read-le FC = omega arith
-  read-le ST = transition-le (g .settings .transition)
-  read-le SM = omega (arith, stream-le (g .settings .streaming) (g .settings .list) few)
-
   sent-le : (c : Command) → length (sentText g c) ≤ 24
   unfolding sentText valueText pick
   sent-le MV = omega (arith, value-le 0 (g .readings))
   sent-le T2 = omega (arith, value-le 8 (g .readings))
   sent-le FN = omega arith
   sent-le FS = omega arith
-  sent-le (Of key) = read-le key
+  sent-le (Of key) = read-le (g .settings) few key
 
-  text-v2-le : (r : RequestV2) → length (textV2 g r) ≤ 24
+  pub text-v2-le : (r : RequestV2) → length (textV2 g r) ≤ 24
   unfolding textV2
   text-v2-le (Read c) = sent-le c
   text-v2-le (Restore c) = omega arith

@@ -1,31 +1,20 @@
 -- Document 01, "V1 on the same settings": the rules that read the state, the replies' data, and what an accepted request enters. Assumes
 -- nothing.
 use mathlib.Core.Bool.{Bool, true, false, not}
-use mathlib.Core.List.{List, [], _∷_, _++_}
-use Prim.Native.Nat.{ℕ, _/_}
+use mathlib.Core.List.{List, [], _∷_}
+use Prim.Native.Nat.{ℕ}
 use lib.Dec.{ltb}
 use Rattle.buffer.specs.First.{_⇒_, first}
-use Rattle.buffer.specs.Byte.{within, digits3}
+use Rattle.buffer.specs.Byte.{within}
 use Rattle.settings.specs.Limits.{standard}
 use Rattle.settings.specs.Settings.{Held, putOf}
-use Rattle.settings.specs.declared.PressureUnit.{PressureUnit}
-use Rattle.settings.specs.declared.PressureUnit.the-variants.{Mbar, Torr, HPa}
 use Rattle.settings.specs.declared.Setting.the-variants.{PressureIn, Factor}
 use Rattle.readings.specs.Reading.{isFaulty}
 use Rattle.readings.specs.Measure.{measureText}
 use Rattle.requests.specs.declared.RequestV1.{RequestV1}
 use Rattle.requests.specs.declared.RequestV1.the-variants.{Measure, ReadFactor, Unlock, SetFactor, ReadUnit, SetUnit}
+use Rattle.request_texts.specs.RequestText.{digits6, unitCode}
 use Rattle.gauge_rules.specs.State.{State}
-
--- "as six digits"
-abbrev pub digits6 : ℕ → List ℕ
-digits6 n = digits3 (n / 1000) ++ digits3 n
-
--- "000000 mbar, 000001 Torr, 000002 hPa"
-unfoldable pub unitCode : PressureUnit → ℕ
-unitCode Mbar = 0
-unitCode Torr = 1
-unitCode HPa = 2
 
 -- "`c` with six digits, if unlocked, writes 20 to 800; locked is LOGIC, checked before the number."
 unfoldable pub factorNumber : Bool → ℕ → ℕ

@@ -3,33 +3,7 @@ ghost use mathlib.Core.Path.{_≡_};
 ghost use Rattle.buffer.specs.Text.{textOf};
 ghost use Rattle.settings.specs.Settings.{held};
 ghost use Rattle.gauge_rules.specs.State.{stateOf};
-ghost use Rattle.gauge_rules_v1.specs.RulesV1.{digits6, unitCode, factorNumber, enterFactor, grantV1, textV1, repeats, unlocks, enterV1};
-
-// A number as six digits.
-fn six_digits(n: u16) -> buffer::Text
-    ensures { λ r. ⌜ textOf r ≡ digits6 n ⌝ }
-{
-    let digits = [
-        (n / 1000 / 100 % 10) as u8 + 48,
-        (n / 1000 / 10 % 10) as u8 + 48,
-        (n / 1000 % 10) as u8 + 48,
-        (n / 100 % 10) as u8 + 48,
-        (n / 10 % 10) as u8 + 48,
-        (n % 10) as u8 + 48,
-    ];
-    buffer::Text::EMPTY.add(&digits)
-}
-
-// V1's number of a unit.
-fn unit_code(unit: settings::PressureUnit) -> u16
-    ensures { λ r. ⌜ r ≡ unitCode unit ⌝ }
-{
-    match unit {
-        settings::PressureUnit::Mbar => 0,
-        settings::PressureUnit::Torr => 1,
-        settings::PressureUnit::HPa => 2,
-    }
-}
+ghost use Rattle.gauge_rules_v1.specs.RulesV1.{factorNumber, enterFactor, grantV1, textV1, repeats, unlocks, enterV1};
 
 // The number of a `c` with six digits.
 fn factor_number(unlocked: bool, n: u32) -> u8
@@ -78,8 +52,8 @@ pub fn text_v1(g: gauge_rules::Gauge, request: requests::RequestV1) -> buffer::T
     let unit = s.unit;
     match request {
         requests::RequestV1::Measure => readings::measure_text(p0),
-        requests::RequestV1::ReadFactor => six_digits(s.factor),
-        requests::RequestV1::ReadUnit => six_digits(unit_code(unit)),
+        requests::RequestV1::ReadFactor => request_texts::six_digits(s.factor as u32),
+        requests::RequestV1::ReadUnit => request_texts::six_digits(request_texts::unit_code(unit)),
         requests::RequestV1::Unlock => buffer::Text::EMPTY,
         requests::RequestV1::SetFactor(_) => buffer::Text::EMPTY,
         requests::RequestV1::SetUnit(_) => buffer::Text::EMPTY,

@@ -1,9 +1,10 @@
 -- The commands of V2 and the column "Access". Assumes nothing.
 use mathlib.Core.Bool.{Bool, true, false, not, _||_}
-use mathlib.Core.List.{[], _∷_}
+use mathlib.Core.List.{List, [], _∷_}
 use Prim.Native.Nat.{ℕ, _+_, _*_}
 use lib.Dec.{eqb}
 use Rattle.buffer.specs.First.{_⇒_, first}
+use Rattle.buffer.specs.Quoted.{bytes}
 use Rattle.settings.specs.declared.Key.the-variants.{DA, DU, C1, CM, CC, FC, ST, SM}
 use Rattle.requests.specs.declared.Command.{Command}
 use Rattle.requests.specs.declared.Command.the-variants.{MV, T2, FN, FS, Of}
@@ -32,6 +33,21 @@ commandOf a b =
     ∷ eqb (two a b) (two 83 77) ⇒ Known (Of SM)
     ∷ [])
     Unknown
+
+-- the two characters of a command
+unfoldable pub commandText : Command → List ℕ
+commandText MV = bytes "MV"
+commandText T2 = bytes "T2"
+commandText FN = bytes "FN"
+commandText FS = bytes "FS"
+commandText (Of DA) = bytes "DA"
+commandText (Of DU) = bytes "DU"
+commandText (Of C1) = bytes "C1"
+commandText (Of CM) = bytes "CM"
+commandText (Of CC) = bytes "CC"
+commandText (Of FC) = bytes "FC"
+commandText (Of ST) = bytes "ST"
+commandText (Of SM) = bytes "SM"
 
 -- "read 0", "write 2", "factory default 4", as characters
 abbrev pub readCode : ℕ

@@ -3,10 +3,11 @@
 ghost use mathlib.Core.Path.{_≡_};
 ghost use mathlib.Core.List.{[]};
 ghost use Rattle.sources.specs.Source.{listOf};
-ghost use Rattle.requests.specs.Command.{commandOf, isAccess, canWrite, canRestore, lacksAccess};
+ghost use Rattle.requests.specs.Command.{commandOf, commandText, isAccess, canWrite, canRestore, lacksAccess};
 ghost use Rattle.requests.specs.AskV2.{setOf, AsksV2, Writes};
 ghost use Rattle.requests.specs.AskV1.{sixDigits, bareOf, oneOf, unitAt, askV1};
 ghost use Rattle.requests.specs.declared.AskV2.{AskV2};
+ghost use Rattle.requests.specs.declared.Command.{Command};
 
 // ---- V2
 
@@ -74,6 +75,35 @@ pub fn command_of(first: u8, second: u8) -> Named
         // SM
         21325 => Named::Known(Command::Of(settings::Key::SM)),
         _ => Named::Unknown,
+    }
+}
+
+// The two characters of a command.
+pub fn command_bytes(command: Command) -> [u8; 2]
+    ensures { λ r. ⌜ r ≡ commandText command ⌝ }
+{
+    match command {
+        Command::MV => [b'M', b'V'],
+        Command::T2 => [b'T', b'2'],
+        Command::FN => [b'F', b'N'],
+        Command::FS => [b'F', b'S'],
+        Command::Of(key) => key_bytes(key),
+    }
+}
+
+// The two characters of a setting's command.
+fn key_bytes(key: settings::Key) -> [u8; 2]
+    ensures { λ r. ⌜ r ≡ commandText (Command.Of key) ⌝ }
+{
+    match key {
+        settings::Key::DA => [b'D', b'A'],
+        settings::Key::DU => [b'D', b'U'],
+        settings::Key::C1 => [b'C', b'1'],
+        settings::Key::CM => [b'C', b'M'],
+        settings::Key::CC => [b'C', b'C'],
+        settings::Key::FC => [b'F', b'C'],
+        settings::Key::ST => [b'S', b'T'],
+        settings::Key::SM => [b'S', b'M'],
     }
 }
 
@@ -220,7 +250,8 @@ pub enum AskV1 {
     Denied(u8),
 }
 
-fn has_six_digits(s: &[u8]) -> bool
+// Whether a text is six digits.
+pub fn has_six_digits(s: &[u8]) -> bool
     ensures { λ r. ⌜ r ≡ sixDigits (now (s .entry)) ⌝ }
 {
     if s.len() != 6 {

@@ -9,25 +9,11 @@ use lib.Dec.{eqb}
 use Rattle.buffer.specs.Quoted.{bytes}
 use Rattle.buffer.proofs.Rules.{each}
 use Rattle.settings.specs.declared.Key.the-variants.{DA, DU, C1, CM, CC, FC, ST, SM}
-use Rattle.requests.specs.Command.{two, commandOf}
+use Rattle.requests.specs.Command.{two, commandOf, commandText}
 use Rattle.requests.specs.declared.Command.{Command}
 use Rattle.requests.specs.declared.Command.the-variants.{MV, T2, FN, FS, Of}
 use Rattle.requests.specs.declared.Named.{Named}
 use Rattle.requests.specs.declared.Named.the-variants.{Known, Unknown}
-
-abbrev pub commandText : Command → List ℕ
-commandText MV = bytes "MV"
-commandText T2 = bytes "T2"
-commandText FN = bytes "FN"
-commandText FS = bytes "FS"
-commandText (Of DA) = bytes "DA"
-commandText (Of DU) = bytes "DU"
-commandText (Of C1) = bytes "C1"
-commandText (Of CM) = bytes "CM"
-commandText (Of CC) = bytes "CC"
-commandText (Of FC) = bytes "FC"
-commandText (Of ST) = bytes "ST"
-commandText (Of SM) = bytes "SM"
 
 -- two bytes spell the command that they name
 abbrev Spells : ℕ → ℕ → Named → Type 0
@@ -42,7 +28,7 @@ same a b x y h k e =
     rw (p, q)
 
 spells : (a b : ℕ) → b < 256 → Spells a b (commandOf a b)
-unfolding commandOf bytes
+unfolding commandOf commandText bytes
 spells a b h =
     each (Spells a b) (eqb (two a b) (two 77 86)) (Known MV) _ (same a b 77 86 h (omega arith))
     (λ _. each (Spells a b) (eqb (two a b) (two 84 50)) (Known T2) _ (same a b 84 50 h (omega arith))

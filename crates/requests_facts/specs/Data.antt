@@ -24,8 +24,10 @@ use Rattle.settings.specs.declared.Key.{Key}
 use Rattle.settings.specs.declared.Key.the-variants.{DA, DU, C1, CM, CC, FC, ST, SM}
 use Rattle.settings.specs.declared.Setting.{Setting}
 use Rattle.settings.specs.declared.Setting.the-variants.{PressureIn, Factor, Control, Cathode, Filament, Switch, Stream}
-use Rattle.forms.specs.Forms.{addressData, unitData, factorIn, factorOf, digitData, digitOf, limitedOf, directOf, betweenOf, transitionData, idleList, knownMode, streamOf, streamData}
+use Rattle.forms.specs.Forms.{addressData, unitData, factorIn, factorOf, digitData, digitOf, limitedOf, directOf, betweenOf, endsOf, transitionOf, transitionData, idleList, knownMode, streamOf, streamData}
 use Rattle.forms.specs.Judged.{verdictOf}
+use Rattle.forms.specs.declared.Ends.{Ends}
+use Rattle.forms.specs.declared.Ends.the-variants.{None, One, Two}
 use Rattle.forms.specs.declared.Digit.{Digit}
 use Rattle.forms.specs.declared.Digit.the-variants.{Is, Isnt}
 use Rattle.forms.specs.declared.Limited.{Limited}
@@ -126,13 +128,14 @@ between-told (Bad j) (Bad k) (inr e) (inl f) = rw (e, f) syntax
 between-told (Bad j) (Bad k) (inr e) (inr f) = rw (e, f) range
 
 transition-told : (s : List ℕ) → Told (transitionData s)
-unfolding transitionData
+unfolding transitionData endsOf transitionOf
 transition-told s =
     let t = drop 1 s in
     let k = untilOf 84 t in
-    each Told (startsWith 68 s) (directOf (limitedOf (numberOf t))) _ (λ _. direct-told _ (limited-passed (numberOf t)))
-    (λ _. each Told (not (startsWith 70 s)) (Refused 10) _ (λ _. syntax)
-    (λ _. each Told (leb (length t) k) (Refused 10) _ (λ _. syntax)
+    let P : Ends → Type 0 = λ (e : Ends). Told (transitionOf e) in
+    each P (startsWith 68 s) (One (limitedOf (numberOf t))) _ (λ _. direct-told _ (limited-passed (numberOf t)))
+    (λ _. each P (not (startsWith 70 s)) None _ (λ _. syntax)
+    (λ _. each P (leb (length t) k) None _ (λ _. syntax)
     (λ _. between-told _ _ (limited-passed (numberOf (take k t))) (limited-passed (numberOf (drop (k + 1) t))))))
 
 stream-told : (s : List ℕ) (n : ℕ) → Told (streamOf s n)
@@ -161,7 +164,7 @@ refused-data key s k e = rw e at (told key s)
 
 -- "none with a write" is SYNTAX
 pub none-with-write : (key : Key) → verdictOf key [] ≡ Refused 10
-unfolding verdictOf addressData unitData unitText sameText factorOf numberOf scanOf answerOf unsignedOf leading startsWith digitData digitOf transitionData streamData streamOf pick
+unfolding verdictOf addressData unitData unitText sameText factorOf numberOf scanOf answerOf unsignedOf leading startsWith digitData digitOf endsOf transitionOf transitionData streamData streamOf pick
 none-with-write DA = refl
 none-with-write DU = refl
 none-with-write C1 = refl

@@ -32,6 +32,17 @@ held s = record { address = s .address; unit = s .unit; factor = s .factor; cont
 abbrev pub factory : Held
 factory = record { address = 1; unit = Mbar; factor = 100; control = 1; cathode = 1; filament = 0; transition = standard .factoryTransition; streaming = false; list = [] }
 
+-- the command of a setting
+abbrev pub keyOf : Setting → Key
+keyOf (Address v) = DA
+keyOf (PressureIn u) = DU
+keyOf (Factor h) = C1
+keyOf (Control d) = CM
+keyOf (Cathode d) = CC
+keyOf (Filament d) = FC
+keyOf (Switch t) = ST
+keyOf (Stream on) = SM
+
 -- the factory value of one setting
 unfoldable pub factoryOf : Key → Setting
 factoryOf DA = Address (factory .address)

@@ -5,7 +5,7 @@ ghost use mathlib.Core.List.{[], _∷_};
 ghost use Rattle.buffer.specs.Text.{textOf};
 ghost use Rattle.buffer.specs.Byte.{digit, digits3};
 ghost use Rattle.sources.specs.Source.{listOf};
-ghost use Rattle.settings.specs.Settings.{held, factory, factoryOf, bothOf, putOf, restoreOf};
+ghost use Rattle.settings.specs.Settings.{held, factory, keyOf, factoryOf, bothOf, putOf, restoreOf};
 ghost use Rattle.settings.specs.Sent.{unitText, transitionText, streamText, readText};
 
 // The unit of pressure, DU.
@@ -227,6 +227,22 @@ impl Settings {
             Key::ST => transition_text(transition),
             Key::SM => stream_text(self.streaming, list),
         }
+    }
+}
+
+// The command of a setting.
+pub fn key_of(setting: Setting) -> Key
+    ensures { λ r. ⌜ r ≡ keyOf setting ⌝ }
+{
+    match setting {
+        Setting::Address(_) => Key::DA,
+        Setting::PressureIn(_) => Key::DU,
+        Setting::Factor(_) => Key::C1,
+        Setting::Control(_) => Key::CM,
+        Setting::Cathode(_) => Key::CC,
+        Setting::Filament(_) => Key::FC,
+        Setting::Switch(_) => Key::ST,
+        Setting::Stream(_) => Key::SM,
     }
 }
 

@@ -1,5 +1,5 @@
 -- Sources and their texts. Assumes nothing.
-use mathlib.Core.Bool.{Bool, _&&_, _||_, not}
+use mathlib.Core.Bool.{Bool, false, _&&_, _||_, not}
 use mathlib.Core.List.{List, [], _∷_, _++_}
 use Prim.Native.Nat.{ℕ}
 use lib.Dec.{eqb}
@@ -13,6 +13,11 @@ use Rattle.sources.specs.declared.Sources.{Sources}
 -- A source is known by a code: its digit, or 8 for `T2`, 9 for `T6`. "The sources here are exactly `0 1 2 6 7 T2 T6`"
 abbrev pub knownSources : List ℕ
 knownSources = 0 ∷ 1 ∷ 2 ∷ 6 ∷ 7 ∷ 8 ∷ 9 ∷ []
+
+-- whether c is one of the codes
+unfoldable pub among : List ℕ → ℕ → Bool
+among [] c = false
+among (d ∷ codes) c = eqb c d || among codes c
 
 -- "up to seven sources"
 abbrev pub mostEntries : ℕ

@@ -1,51 +1,11 @@
 -- `forms::judge_transition` meets its contract. Assumes nothing.
-use mathlib.Core.Path.{sym, _∙_}
-use native.Mathlib.Omega.{arith}
 use borrow.Author.Needs.{needs}
-use borrow.Author.Tests.{le-leb, lt-leb, not-true, not-false}
-use Rattle.buffer.specs.First.{pick}
-use lib.ListN.{length-take}
 use Rattle.forms.specs.Forms.{transitionData}
 use Rattle.forms.proofs.judge_transition.Statement.{statement}
 use Rattle.forms.proofs.judge_transition.Tie as tie
 
-returns-4 : tie.Need-returns-4
-unfolding transitionData pick
-returns-4 c =
-    rw (
-      ← (c .before .before .before .before .before .before .before .before .before .before .before .before .before .rest .ensures),
-      ← (c .before .before .before .before .before .before .before .before .until .ensures),
-      sym (c .before .before .before .before .before .before .before .before .before .before .before .before .starts-with .ensures) ∙ c .before .before .before .before .before .before .before .before .before .before .before .if1 .left,
-      sym (c .before .before .before .before .before .before .before .before .before .before .starts-with2 .ensures) ∙ not-false _ (c .before .before .before .before .before .before .before .before .before .if2 .left),
-      lt-leb _ _ (c .before .before .before .before .before .before .before .if3 .left),
-      ← (c .before .before .before .before .before .read-number2 .ensures),
-      ← (c .before .before .before .before .in-limits2 .ensures),
-      ← (c .before .before .before .rest2 .ensures),
-      ← (c .before .before .read-number3 .ensures),
-      ← (c .before .in-limits3 .ensures),
-    ) (c .between .ensures)
-
 pub judge-transition-spec : {M : Type 1} → statement M
-unfolding transitionData pick
+unfolding transitionData
 judge-transition-spec =
     tie.close
-    (tie.spec
-    (λ c κs. search needs)
-    (λ c κs. search needs)
-    (λ c κs. search needs)
-    (λ c κs. search needs)
-    (λ c κs. search needs)
-    (λ c. rw (← (c .before .before .before .before .before .rest .ensures), sym (c .before .before .before .before .starts-with .ensures) ∙ c .before .before .before .if1 .taken, ← (c .before .before .read-number .ensures), ← (c .before .in-limits .ensures)) (c .direct .ensures))
-    (λ c κs. search needs)
-    (λ c. rw (sym (c .before .before .before .starts-with .ensures) ∙ c .before .before .if1 .left, sym (c .before .starts-with2 .ensures) ∙ not-true _ (c .if2 .taken)))
-    (λ c κs. search needs)
-    (λ c. rw (← (c .before .before .before .before .before .before .rest .ensures), ← (c .before .until .ensures), sym (c .before .before .before .before .before .starts-with .ensures) ∙ c .before .before .before .before .if1 .left, sym (c .before .before .before .starts-with2 .ensures) ∙ not-false _ (c .before .before .if2 .left), le-leb _ _ (c .if3 .taken)))
-    (λ c. simp length-take (omega arith))
-    (λ c κs. search needs)
-    (λ c κs. search needs)
-    (λ c. search needs)
-    (λ c κs. search needs)
-    (λ c κs. search needs)
-    (λ c κs. search needs)
-    (λ c κs. search needs)
-    returns-4)
+    (tie.spec (λ c κs. search needs) (λ c κs. search needs) (λ c. rw (← (c .before .read-ends .ensures)) (c .judge-ends .ensures)))

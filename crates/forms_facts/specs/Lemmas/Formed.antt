@@ -22,6 +22,7 @@ use Rattle.decimal.specs.declared.Hundredths.{Hundredths}
 use Rattle.decimal.specs.declared.Hundredths.the-variants.{Whole, Other}
 use Rattle.sources.specs.Source.{listText}
 use Rattle.sources.specs.Entries.{entriesNumber, entriesList}
+use Rattle.settings.specs.Settings.{keyOf}
 use Rattle.settings.specs.Limits.{standard}
 use Rattle.settings.specs.Sent.{unitText, streamText}
 use Rattle.settings.specs.declared.PressureUnit.{PressureUnit}
@@ -31,8 +32,10 @@ use Rattle.settings.specs.declared.Key.{Key}
 use Rattle.settings.specs.declared.Key.the-variants.{DA, DU, C1, CM, CC, FC, ST, SM}
 use Rattle.settings.specs.declared.Setting.{Setting}
 use Rattle.settings.specs.declared.Setting.the-variants.{Address, PressureIn, Factor, Control, Cathode, Filament, Switch, Stream}
-use Rattle.forms.specs.Forms.{addressData, unitData, factorIn, factorOf, digitData, digitOf, limitedOf, directOf, betweenOf, transitionData, idleList, knownMode, streamOf, streamData}
+use Rattle.forms.specs.Forms.{addressData, unitData, factorIn, factorOf, digitData, digitOf, limitedOf, directOf, betweenOf, endsOf, transitionOf, transitionData, idleList, knownMode, streamOf, streamData}
 use Rattle.forms.specs.Judged.{verdictOf}
+use Rattle.forms.specs.declared.Ends.{Ends}
+use Rattle.forms.specs.declared.Ends.the-variants.{None, One, Two}
 use Rattle.forms.specs.declared.Digit.{Digit}
 use Rattle.forms.specs.declared.Digit.the-variants.{Is, Isnt}
 use Rattle.forms.specs.declared.Limited.{Limited}
@@ -47,7 +50,7 @@ use Rattle.forms_facts.specs.Lemmas.Lacks.{split, until-lacks, until-spl
 use Rattle.forms_facts.specs.Lemmas.Lists.{same-equal, entries-short}
 use Rattle.forms_facts.specs.Lemmas.Numbers.{read-lacks, hundredths-of, of-hundredths}
 use Rattle.forms_facts.specs.Lemmas.Texts.{none-number, list-number}
-use Rattle.forms_facts.specs.Form.{keyOf, Form}
+use Rattle.forms_facts.specs.Form.{Form}
 
 -- ---- what is accepted is of the form
 
@@ -155,14 +158,15 @@ between-formed s t u (Bad j) (Fine b) e h l = tt
 between-formed s t u (Bad j) (Bad k) e h l = tt
 
 transition-formed : (s : List ℕ) → Formed ST s (transitionData s)
-unfolding transitionData
+unfolding transitionData endsOf transitionOf
 transition-formed s =
     let t = drop 1 s in
     let k = untilOf 84 t in
-    each (Formed ST s) (startsWith 68 s) (directOf (limitedOf (numberOf t))) _
+    let P : Ends → Type 0 = λ (e : Ends). Formed ST s (transitionOf e) in
+    each P (startsWith 68 s) (One (limitedOf (numberOf t))) _
     (λ e. direct-formed s t _ (starts 68 s e (starts-some 67 s e)) (limited-reads t))
-    (λ _. each (Formed ST s) (not (startsWith 70 s)) (Refused 10) _ (λ _. tt)
-    (λ e. each (Formed ST s) (leb (length t) k) (Refused 10) _ (λ _. tt)
+    (λ _. each P (not (startsWith 70 s)) None _ (λ _. tt)
+    (λ e. each P (leb (length t) k) None _ (λ _. tt)
     (λ f. between-formed s (take k t) (drop (k + 1) t) _ _ (front (not-false _ e) (until-split 84 t (leb-false (length t) k f))) (limited-reads (take k t))
     (limited-reads (drop (k + 1) t)))))
   where
@@ -234,12 +238,12 @@ unfolding limitedOf pick
 limited-fine s n e h = rw (e, h .low, h .high)
 
 direct-set : (t : List ℕ) (n : Number) → numberOf t ≡ Value n → InLimits n → transitionData (68 ∷ t) ≡ Set (Switch (Direct n))
-unfolding transitionData directOf pick startsWith
+unfolding transitionData endsOf transitionOf directOf pick startsWith
 direct-set t n e h = rw (limited-fine t n e h)
 
 between-set : (t u : List ℕ) (a b : Number) → numberOf t ≡ Value a → numberOf u ≡ Value b → InLimits a → InLimits b → belowOf a b ≡ true
     → transitionData (70 ∷ (t ++ 84 ∷ u)) ≡ Set (Switch (Between a b))
-unfolding transitionData betweenOf pick startsWith
+unfolding transitionData endsOf transitionOf betweenOf pick startsWith
 between-set t u a b e f h k l =
     let n : length t < length (t ++ 84 ∷ u) = simp length-append (omega arith) in
     rw (

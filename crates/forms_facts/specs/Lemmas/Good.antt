@@ -24,8 +24,10 @@ use Rattle.settings.specs.declared.Key.{Key}
 use Rattle.settings.specs.declared.Key.the-variants.{DA, DU, C1, CM, CC, FC, ST, SM}
 use Rattle.settings.specs.declared.Setting.{Setting}
 use Rattle.settings.specs.declared.Setting.the-variants.{PressureIn, Factor, Control, Cathode, Filament, Switch, Stream}
-use Rattle.forms.specs.Forms.{addressData, unitData, factorIn, factorOf, digitData, digitOf, limitedOf, directOf, betweenOf, transitionData, idleList, knownMode, streamOf, streamData}
+use Rattle.forms.specs.Forms.{addressData, unitData, factorIn, factorOf, digitData, digitOf, limitedOf, directOf, betweenOf, endsOf, transitionOf, transitionData, idleList, knownMode, streamOf, streamData}
 use Rattle.forms.specs.Judged.{verdictOf}
+use Rattle.forms.specs.declared.Ends.{Ends}
+use Rattle.forms.specs.declared.Ends.the-variants.{None, One, Two}
 use Rattle.forms.specs.declared.Digit.{Digit}
 use Rattle.forms.specs.declared.Digit.the-variants.{Is, Isnt}
 use Rattle.forms.specs.declared.Limited.{Limited}
@@ -107,13 +109,14 @@ between-good (Bad j) (Fine b) h l = tt
 between-good (Bad j) (Bad k) h l = tt
 
 transition-good : (s : List ℕ) → Good (transitionData s)
-unfolding transitionData
+unfolding transitionData endsOf transitionOf
 transition-good s =
     let t = drop 1 s in
     let k = untilOf 84 t in
-    each Good (startsWith 68 s) (directOf (limitedOf (numberOf t))) _ (λ _. direct-good _ (limited-passed t))
-    (λ _. each Good (not (startsWith 70 s)) (Refused 10) _ (λ _. tt)
-    (λ _. each Good (leb (length t) k) (Refused 10) _ (λ _. tt)
+    let P : Ends → Type 0 = λ (e : Ends). Good (transitionOf e) in
+    each P (startsWith 68 s) (One (limitedOf (numberOf t))) _ (λ _. direct-good _ (limited-passed t))
+    (λ _. each P (not (startsWith 70 s)) None _ (λ _. tt)
+    (λ _. each P (leb (length t) k) None _ (λ _. tt)
     (λ _. between-good _ _ (limited-passed (take k t)) (limited-passed (drop (k + 1) t)))))
 
 stream-good : (s : List ℕ) (n : ℕ) → Good (streamOf s n)

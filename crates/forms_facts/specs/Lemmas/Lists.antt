@@ -10,11 +10,11 @@ use lib.ListN.{length, length-map}
 use Rattle.buffer.specs.First.{pick}
 use Rattle.buffer.specs.Byte.{every, sameText}
 use Rattle.buffer.proofs.Rules.{each}
-use Rattle.sources.specs.Source.{sourceText, isSource, findSource, sourceOf, knownSources, mostEntries, listText}
+use Rattle.sources.specs.Source.{sourceText, isSource, findSource, sourceOf, knownSources, mostEntries, listText, among}
 use Rattle.sources.specs.Entries.{onto, parts, sourceTexts, entriesOf, isFormed, isKnown, codeOf, opens, entriesNumber, entriesList}
 use Rattle.sources.specs.declared.Source.{Source}
 use Rattle.sources.specs.declared.Source.the-variants.{Known, Unknown, Malformed}
-use Rattle.forms_facts.specs.Codes.{among, Short}
+use Rattle.forms_facts.specs.Codes.{Short}
 
 -- ---- two texts
 

@@ -1,0 +1,128 @@
+-- Document 01, "The master's side": worked cases of the V2 reply reader, their answers taken from the paper. Assumes nothing.
+use mathlib.Core.Path.{_≡_, refl}
+use mathlib.Core.Bool.{Bool, true, _&&_}
+use mathlib.Core.List.{List, [], _∷_, _++_}
+use Prim.Native.Nat.{ℕ}
+use Prim.Native.String.{String}
+use Rattle.buffer.specs.First.{pick}
+use Rattle.buffer.specs.Byte.{within, every, sameText, untilOf, numeralFrom}
+use Rattle.buffer.specs.Quoted.{bytes}
+use Rattle.frames.specs.Checksum.{sumOf, checksumOf}
+use Rattle.frames.specs.Frame.{isLetter, lengthFits, misshapen, wrongSum, wrongAddress, wrongLength, headV2}
+use Rattle.frame_writer.specs.Error.{errorBytes}
+use Rattle.decimal.specs.Exact.{units, sizeOf, normalOf}
+use Rattle.decimal.specs.Form.{leading, startsWith, powerOf, exponentOf, fractionOf, unsignedOf, scanOf, answerOf, numberOf}
+use Rattle.decimal.specs.Number.{plus, minus, belowOf, countedOf, hundredthsOf}
+use Rattle.decimal_text.specs.Written.{signText, trimmed, pointed, exponentText, writtenOf, wholeText, twoDecimals}
+use Rattle.sources.specs.Source.{sourceText, isSource, findSource, sourceOf, listOf, listText}
+use Rattle.sources.specs.Entries.{onto, parts, sourceTexts, entriesOf, opens, entriesNumber, entriesList}
+use Rattle.settings.specs.Settings.{putOf}
+use Rattle.settings.specs.Sent.{unitText, transitionText, streamText, readText}
+use Rattle.settings.specs.declared.Key.the-variants.{DA, DU, C1, CM, ST, SM}
+use Rattle.settings.specs.declared.Setting.the-variants.{Address, Factor}
+use Rattle.readings.specs.Bench.{takes}
+use Rattle.forms.specs.Forms.{addressData, unitData, factorIn, factorOf, digitData, digitOf, limitedOf, directOf, betweenOf, endsOf, transitionOf, transitionData, idleList, knownMode, streamOf, streamData}
+use Rattle.forms.specs.Judged.{verdictOf, ifSet, listIn}
+use Rattle.requests.specs.Command.{commandText}
+use Rattle.requests.specs.declared.Command.the-variants.{MV, T2, FN, FS, Of}
+use Rattle.requests.specs.declared.RequestV2.{RequestV2}
+use Rattle.requests.specs.declared.RequestV2.the-variants as ask
+use Rattle.request_texts.specs.RequestText.{accessOf, commandIn, dataV2}
+use Rattle.replies_v2_values.specs.Value.{measuredReply, pressureReply, degreesReply, temperatureReply, filamentReply, statusReply, heldReply, bothEnds, transitionReply, settingReply, valueReply, valueList}
+use Rattle.replies_v2.specs.ReplyV2.{notV2, otherAccess, otherCommand, mismatched, errorReply, doneReply, dataReply, readV2, beside, dataList, readList, readShownV2}
+
+-- the address and the request that the reader is told, the bytes, what they are read as, and the list beside it
+pub record Case : Type 0 where
+  pub address : ℕ
+  pub request : RequestV2
+  pub frame : List ℕ
+  pub shown : List ℕ
+  pub list : List ℕ
+
+abbrev pub reads : RequestV2 → String → List ℕ → Case
+reads r frame shown = record { address = 1; request = r; frame = bytes frame ++ (13 ∷ []); shown = shown; list = [] }
+
+abbrev pub cases : List Case
+cases =
+    reads (ask.Read MV) "0011MV079.734e2h" (0 ∷ 1 ∷ bytes "9.734e2")
+    -- of the decimal form, though not as written
+    ∷ reads (ask.Read MV) "0011MV05973.4O" (0 ∷ 1 ∷ bytes "9.734e2")
+    -- source 0 is above zero
+    ∷ reads (ask.Read MV) "0011MV010v" (11 ∷ [])
+    ∷ reads (ask.Read MV) "0011MV04-1e0|" (11 ∷ [])
+    ∷ reads (ask.Read MV) "0011MV04+1e0z" (10 ∷ [])
+    -- `UR` and `OR` are MV's
+    ∷ reads (ask.Read MV) "0011MV02URn" (0 ∷ 2 ∷ [])
+    ∷ reads (ask.Read MV) "0011MV02ORh" (0 ∷ 3 ∷ [])
+    ∷ reads (ask.Read T2) "0011T202URQ" (10 ∷ [])
+    -- an error text counts with access 7 only
+    ∷ reads (ask.Read MV) "0011MV06ERROR1F" (10 ∷ [])
+    ∷ reads (ask.Read MV) "0017MV06ERROR1L" (0 ∷ 9 ∷ bytes "ERROR1")
+    -- the six texts are read whatever the request
+    ∷ reads (ask.Read (Of DU)) "0017DU06ERROR1B" (0 ∷ 9 ∷ bytes "ERROR1")
+    ∷ reads (ask.Read MV) "0017MV06LENGTHS" (0 ∷ 9 ∷ bytes "LENGTH")
+    ∷ reads (ask.Read MV) "0017MV06_LOGIC^" (0 ∷ 9 ∷ bytes "_LOGIC")
+    ∷ reads (ask.Read MV) "0017MV06NO_DEF\\" (0 ∷ 9 ∷ bytes "NO_DEF")
+    ∷ reads (ask.Read MV) "0017MV06SYNTAXx" (0 ∷ 9 ∷ bytes "SYNTAX")
+    ∷ reads (ask.Read MV) "0017MV06_RANGE]" (0 ∷ 9 ∷ bytes "_RANGE")
+    -- not in the table
+    ∷ reads (ask.Read MV) "0017MV06_SEDISh" (10 ∷ [])
+    -- access 7 without data
+    ∷ reads (ask.Read MV) "0017MV00K" (10 ∷ [])
+    -- another command, although access is 7
+    ∷ reads (ask.Read MV) "0017T206ERROR1o" (14 ∷ [])
+    -- 3 answers a write
+    ∷ reads (ask.Read MV) "0013MV00G" (14 ∷ [])
+    -- the request's echo
+    ∷ reads (ask.Read MV) "0010MV00D" (14 ∷ [])
+    -- LEN before 14, 10 and 11
+    ∷ reads (ask.Read MV) "0011MV089.734e2i" (6 ∷ [])
+    -- a V1 frame, also one with a wrong checksum
+    ∷ reads (ask.Read MV) "001M982122V" (2 ∷ [])
+    ∷ reads (ask.Read MV) "001M982122W" (2 ∷ [])
+    -- 3 before 4, 4 before 5
+    ∷ reads (ask.Read MV) "0001MV010v" (3 ∷ [])
+    ∷ reads (ask.Read MV) "0001MV010u" (4 ∷ [])
+    ∷ reads (ask.Read MV) "0021MV031e0O" (5 ∷ [])
+    -- a write of DA is answered from the old address
+    ∷ reads (ask.Set (Address 5)) "0013DA00i" (0 ∷ 8 ∷ [])
+    ∷ record { address = 5; request = ask.Set (Address 5); frame = bytes "0013DA00i" ++ (13 ∷ []); shown = 5 ∷ []; list = [] }
+    -- write and default replies carry no data
+    ∷ reads (ask.Set (Factor 100)) "0013C1041.00[" (10 ∷ [])
+    ∷ reads (ask.Restore (Of C1)) "0015C100Z" (0 ∷ 8 ∷ [])
+    -- C1 factory reply
+    ∷ reads (ask.Read (Of C1)) "0011C1041.00Y" (0 ∷ 7 ∷ bytes "C11.00")
+    -- a digit, but FN is 1 or 2
+    ∷ reads (ask.Read FN) "0011FN010g" (11 ∷ [])
+    ∷ reads (ask.Read FN) "0011FN013j" (11 ∷ [])
+    ∷ reads (ask.Read FN) "0011FN012i" (0 ∷ 5 ∷ 2 ∷ [])
+    ∷ reads (ask.Read FN) "0011FN0201Y" (10 ∷ [])
+    ∷ reads (ask.Read FS) "0011FS010l" (0 ∷ 6 ∷ 0 ∷ [])
+    ∷ reads (ask.Read FS) "0011FS014p" (11 ∷ [])
+    ∷ reads (ask.Read (Of CM)) "0011CM012e" (11 ∷ [])
+    ∷ reads (ask.Read T2) "0011T20527.91n" (0 ∷ 4 ∷ bytes "27.91")
+    ∷ reads (ask.Read T2) "0011T206-40.00M" (0 ∷ 4 ∷ bytes "-40.00")
+    ∷ reads (ask.Read T2) "0011T206-40.01N" (11 ∷ [])
+    ∷ reads (ask.Read T2) "0011T206125.01U" (11 ∷ [])
+    -- not whole hundredths
+    ∷ reads (ask.Read T2) "0011T20627.915d" (11 ∷ [])
+    -- F above T: each number is 1 to 20
+    ∷ reads (ask.Read (Of ST)) "0011ST05F15T5C" (0 ∷ 7 ∷ bytes "STF1.5e1T5e0")
+    ∷ reads (ask.Read (Of ST)) "0011ST04F0T5L" (11 ∷ [])
+    ∷ reads (ask.Read (Of ST)) "0011ST05F0T1en" (10 ∷ [])
+    ∷ reads (ask.Read (Of ST)) "0011ST02D5D" (0 ∷ 7 ∷ bytes "STD5e0")
+    -- the list stands beside the answer
+    ∷ record { address = 1; request = ask.Read (Of SM); frame = bytes "0011SM064D7DT2A" ++ (13 ∷ []); shown = 0 ∷ 7 ∷ bytes "SM4"; list = 7 ∷ 8 ∷ [] }
+    -- eight entries
+    ∷ reads (ask.Read (Of SM)) "0011SM174D7D7D7D7D7D7D7D7V" (11 ∷ [])
+    ∷ reads (ask.Read (Of SM)) "0011SM030D7p" (10 ∷ [])
+    ∷ reads (ask.Read (Of DA)) "0011DA03017B" (11 ∷ [])
+    ∷ reads (ask.Read (Of DU)) "0011DU03Pa O" (10 ∷ [])
+    ∷ []
+
+abbrev pub right : Case → Bool
+right c = sameText (readShownV2 (readV2 (c .address) (c .request) (c .frame))) (c .shown) && sameText (readList (c .address) (c .request) (c .frame)) (c .list)
+
+pub all-read : every right cases ≡ true
+unfolding bytes pick within every sameText untilOf numeralFrom sumOf checksumOf isLetter lengthFits misshapen wrongSum wrongAddress wrongLength headV2 errorBytes units sizeOf normalOf leading startsWith powerOf exponentOf fractionOf unsignedOf scanOf answerOf numberOf plus minus belowOf countedOf hundredthsOf signText trimmed pointed exponentText writtenOf wholeText twoDecimals sourceText isSource findSource sourceOf listOf listText onto parts sourceTexts entriesOf opens entriesNumber entriesList putOf unitText transitionText streamText readText takes addressData unitData factorIn factorOf digitData digitOf limitedOf directOf betweenOf endsOf transitionOf transitionData idleList knownMode streamOf streamData verdictOf ifSet listIn commandText accessOf commandIn dataV2 measuredReply pressureReply degreesReply temperatureReply filamentReply statusReply heldReply bothEnds transitionReply settingReply valueReply valueList notV2 otherAccess otherCommand mismatched errorReply doneReply dataReply readV2 beside dataList readList readShownV2
+all-read = refl

@@ -1,0 +1,30 @@
+-- `replies_v2_values::degrees_of` meets its contract. Assumes nothing.
+use mathlib.Core.Path.{_≡_, refl, sym, ap}
+use mathlib.Core.List.{[], _∷_}
+use borrow.Author.Needs.{needs}
+use types.Run.{OneOf, miss}
+use denote.Enum.Declared.{tagOf}
+use Rattle.replies_v2_values.specs.Kind.{degreesRead}
+use Rattle.replies_v2_values.specs.declared.ReplyV2.{ReplyV2}
+use Rattle.replies_v2_values.specs.declared.ReplyV2.the-variants.{Measured, BelowRange, AboveRange, Degrees, FilamentNumber, StatusNumber, Holds, Done, Error}
+use Rattle.replies_v2_values.specs.declared.DegreesV2.the-variants.{Refused}
+use Rattle.replies_v2_values.proofs.ReplyV2.{the-type}
+use Rattle.replies_v2_values.proofs.degrees_of.Statement.{statement}
+use Rattle.replies_v2_values.proofs.degrees_of.Tie as tie
+
+-- a reply of another kind: its tag is not the expected one
+other : (r : ReplyV2) → OneOf (0 ∷ 1 ∷ 2 ∷ 4 ∷ 5 ∷ 6 ∷ 7 ∷ 8 ∷ []) (tagOf the-type r) → Refused 14 ≡ degreesRead r
+unfolding degreesRead
+other (Measured n) k = refl
+other BelowRange k = refl
+other AboveRange k = refl
+other (Degrees negative h) k = absurd (miss (0 ∷ 1 ∷ 2 ∷ 4 ∷ 5 ∷ 6 ∷ 7 ∷ 8 ∷ []) 3 tt k)
+other (FilamentNumber d) k = refl
+other (StatusNumber d) k = refl
+other (Holds x) k = refl
+other Done k = refl
+other (Error e) k = refl
+
+pub degrees-of-spec : {M : Type 1} → statement M
+unfolding degreesRead
+degrees-of-spec = tie.close (tie.spec (λ c. search needs) (λ c. other (c .before .args .reply) (c .match .keys2)) (λ c. sym (ap degreesRead (c .before .reply .given .1))))

@@ -1,0 +1,61 @@
+-- Laws of requests that are written. Assumes nothing.
+use mathlib.Core.Path.{_≡_, sym, ap}
+use mathlib.Core.Bool.{true, false, not}
+use Prim.Native.Nat.{ℕ, _<_, _≤_}
+use native.Mathlib.Omega.{arith}
+use borrow.Author.Tests.{ne-eqb, eq-eqb}
+use lib.Dec.{eqb}
+use lib.ListN.{length, take, length-take}
+use Rattle.buffer.specs.Byte.{within}
+use Rattle.buffer.specs.Answer.{silent}
+use Rattle.buffer.proofs.Rules.{rules}
+use Rattle.frame_writer.specs.Written.{frameV1}
+use Rattle.sources.specs.Source.{listOf}
+use Rattle.sources.specs.declared.Sources.{Sources}
+use Rattle.requests.specs.declared.RequestV2.{RequestV2}
+use Rattle.requests.specs.declared.RequestV1.{RequestV1}
+use Rattle.requests.specs.declared.RequestV1.the-variants.{Measure, ReadFactor, Unlock, SetFactor, ReadUnit, SetUnit}
+use Rattle.request_texts.specs.RequestText.{headForV1, dataV1}
+use Rattle.request_writer.specs.Typed.{formedV2, formedV1}
+use Rattle.request_writer.specs.Written.{sentV2, requestWrittenV2, requestWrittenV1}
+
+-- a V1 request has at most six data
+pub data-v1-le : (r : RequestV1) → length (dataV1 r) ≤ 6
+unfolding dataV1
+data-v1-le Measure = omega arith
+data-v1-le ReadFactor = omega arith
+data-v1-le Unlock = omega arith
+data-v1-le (SetFactor n) = omega arith
+data-v1-le ReadUnit = omega arith
+data-v1-le (SetUnit u) = omega arith
+
+-- what the writers answer, by their tests
+module _ (room address : ℕ) where
+  pub no-room-v2 : (r : RequestV2) (q : Sources) → room < 109 → requestWrittenV2 room address r q ≡ silent 1
+  unfolding requestWrittenV2
+  no-room-v2 r q h = sym (search rules)
+
+  pub outside-v2 : (r : RequestV2) (q : Sources) → 109 ≤ room → within 1 999 address ≡ false → requestWrittenV2 room address r q ≡ silent 4
+  unfolding requestWrittenV2
+  outside-v2 r q h o = rw o (sym (search rules))
+
+  pub sent-is-v2 : (r : RequestV2) (q : Sources) → 109 ≤ room → within 1 999 address ≡ true → requestWrittenV2 room address r q ≡ sentV2 address (formedV2 r q) (listOf q)
+  unfolding requestWrittenV2
+  sent-is-v2 r q h o = rw o (sym (search rules))
+
+  pub no-room-v1 : (r : RequestV1) → room < 109 → requestWrittenV1 room address r ≡ silent 1
+  unfolding requestWrittenV1
+  no-room-v1 r h = sym (search rules)
+
+  pub outside-v1 : (r : RequestV1) → 109 ≤ room → within 1 999 address ≡ false → requestWrittenV1 room address r ≡ silent 4
+  unfolding requestWrittenV1
+  outside-v1 r h o = rw o (sym (search rules))
+
+  pub refused-v1 : (r : RequestV1) → 109 ≤ room → within 1 999 address ≡ true → (formedV1 r ≡ 0 → ⊥) → requestWrittenV1 room address r ≡ silent (formedV1 r)
+  unfolding requestWrittenV1
+  refused-v1 r h o n = rw o (sym (search rules))
+
+  pub sent-is-v1 : (r : RequestV1) → 109 ≤ room → within 1 999 address ≡ true → formedV1 r ≡ 0
+      → requestWrittenV1 room address r ≡ record { number = 0; reply = frameV1 (headForV1 address r) (dataV1 r) }
+  unfolding requestWrittenV1
+  sent-is-v1 r h o n = rw o (sym (search rules))

@@ -1,0 +1,3 @@
+-- Document 01, "The master's side": the text writer.
+pub mod Typed
+pub mod Written

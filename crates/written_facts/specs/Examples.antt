@@ -1,0 +1,138 @@
+-- Worked cases of the text writer: what it answers and writes. Assumes nothing.
+use mathlib.Core.Path.{_≡_, refl}
+use mathlib.Core.Bool.{Bool, true, false, _&&_}
+use mathlib.Core.List.{List, [], _∷_, _++_}
+use Prim.Native.Nat.{ℕ}
+use Prim.Native.String.{String}
+use native.Mathlib.Omega.{arith}
+use lib.Dec.{eqb}
+use Rattle.buffer.specs.First.{pick}
+use Rattle.buffer.specs.Byte.{within, every, sameText, numeralFrom}
+use Rattle.buffer.specs.Quoted.{bytes}
+use Rattle.buffer.specs.Answer.{Answer}
+use Rattle.frames.specs.Checksum.{sumOf, checksumOf, endOf, closed}
+use Rattle.frame_writer.specs.Written.{frameV1, frameV2}
+use Rattle.decimal.specs.Exact.{units, sizeOf, normalOf}
+use Rattle.decimal.specs.Number.{plus, minus, belowOf, sameValue}
+use Rattle.decimal.specs.declared.Number.{Number}
+use Rattle.decimal_text.specs.Written.{signText, trimmed, pointed, exponentText, writtenOf, wholeText, twoDecimals}
+use Rattle.sources.specs.Source.{sourceText, among, listOf, listText}
+use Rattle.sources.specs.declared.Sources.{Sources}
+use Rattle.settings.specs.Settings.{factory, putOf}
+use Rattle.settings.specs.Sent.{unitText, transitionText, streamText, readText}
+use Rattle.settings.specs.declared.PressureUnit.the-variants.{Mbar, Torr, HPa}
+use Rattle.settings.specs.declared.Transition.the-variants.{Direct, Between}
+use Rattle.settings.specs.declared.Key.the-variants.{DA, DU, C1, CM, CC, FC, ST, SM}
+use Rattle.settings.specs.declared.Setting.the-variants.{Address, PressureIn, Factor, Control, Cathode, Filament, Switch, Stream}
+use Rattle.forms.specs.Forms.{factorIn, limitedOf, directOf, betweenOf, transitionOf}
+use Rattle.requests.specs.Command.{commandText, canRestore, lacksAccess}
+use Rattle.requests.specs.AskV2.{setOf}
+use Rattle.requests.specs.declared.Command.the-variants.{MV, T2, FN, FS, Of}
+use Rattle.requests.specs.declared.RequestV2.{RequestV2}
+use Rattle.requests.specs.declared.RequestV2.the-variants.{Read, Restore, Set}
+use Rattle.requests.specs.declared.RequestV1.{RequestV1}
+use Rattle.requests.specs.declared.RequestV1.the-variants.{Measure, ReadFactor, Unlock, SetFactor, ReadUnit, SetUnit}
+use Rattle.request_texts.specs.RequestText.{accessOf, commandIn, headFor, dataV2, unitCode, letterV1, dataV1}
+use Rattle.request_writer.specs.Typed.{limitedNumber, endsIn, typedDigit, judgedDigit, typedAddress, typedStream, typedVerdict, formedV2, formedV1}
+use Rattle.request_writer.specs.Written.{sentV2, requestWrittenV2, requestWrittenV1}
+use Rattle.written_facts.specs.Same.{SameV2}
+
+-- a case: the writer's answer, and what it should be
+pub record Case : Type 0 where
+  pub answer : Answer
+  pub number : ℕ
+  pub text : List ℕ
+
+abbrev pub refused : Answer → ℕ → Case
+refused a k = record { answer = a; number = k; text = [] }
+
+abbrev pub sends : Answer → String → Case
+sends a t = record { answer = a; number = 0; text = bytes t ++ (13 ∷ []) }
+
+-- the number mantissa * 10 ^ place / 10 ^ 14
+abbrev pub number : ℕ → ℕ → Number
+number m p = record { negative = false; mantissa = m; place = p }
+
+abbrev pub list : ℕ → List ℕ → Sources
+list n codes = record { codes = codes; count = n }
+
+abbrev pub none : Sources
+none = list 0 (0 ∷ 0 ∷ 0 ∷ 0 ∷ 0 ∷ 0 ∷ 0 ∷ [])
+
+-- a V2 request to address 1, with 109 bytes lent
+abbrev pub asks : RequestV2 → Answer
+asks r = requestWrittenV2 109 1 r none
+
+abbrev pub streams : Bool → ℕ → List ℕ → Answer
+streams on n codes = requestWrittenV2 109 1 (Set (Stream on)) (list n codes)
+
+abbrev pub sevens : List ℕ
+sevens = 7 ∷ 7 ∷ 7 ∷ 7 ∷ 7 ∷ 7 ∷ 7 ∷ []
+
+abbrev pub asksV1 : RequestV1 → Answer
+asksV1 r = requestWrittenV1 109 1 r
+
+abbrev pub cases : List Case
+cases =
+    -- 109 bytes must be lent, for V1 too
+    refused (requestWrittenV2 108 1 (Read MV) none) 1
+    ∷ sends (asks (Read MV)) "0010MV00D"
+    ∷ refused (requestWrittenV1 108 1 Measure) 1
+    -- the address is 1 to 999, checked before the access
+    ∷ refused (requestWrittenV2 109 0 (Read MV) none) 4
+    ∷ sends (requestWrittenV2 109 999 (Read MV) none) "9990MV00^"
+    ∷ refused (requestWrittenV2 109 1000 (Restore (Of SM)) none) 4
+    ∷ refused (asks (Restore (Of SM))) 9
+    ∷ refused (asks (Restore MV)) 9
+    -- another digit, and no digit
+    ∷ refused (asks (Set (Control 2))) 11
+    ∷ refused (asks (Set (Control 10))) 10
+    -- the writer knows no CM
+    ∷ sends (asks (Set (Cathode 0))) "0012CC010Z"
+    ∷ refused (asks (Set (Address 17))) 11
+    ∷ sends (asks (Set (Address 16))) "0012DA03016B"
+    -- two decimals
+    ∷ sends (asks (Set (Factor 222))) "0012C1042.22_"
+    ∷ sends (asks (Set (Factor 20))) "0012C1040.20["
+    ∷ refused (asks (Set (Factor 801))) 11
+    ∷ sends (asks (Set (Switch (Between (number 500000 9) (number 150000 10))))) "0012ST10F5e0T1.5e1Y"
+    -- the same values in other forms are sent alike
+    ∷ sends (asks (Set (Switch (Between (number 5 14) (number 15 14))))) "0012ST10F5e0T1.5e1Y"
+    -- seven digits needed, before RANGE
+    ∷ refused (asks (Set (Switch (Between (number 1234567 8) (number 15 14))))) 10
+    ∷ refused (asks (Set (Switch (Between (number 1234567 8) (number 25 14))))) 10
+    -- RANGE before LOGIC
+    ∷ refused (asks (Set (Switch (Between (number 15 14) (number 5 14))))) 12
+    ∷ refused (asks (Set (Switch (Between (number 25 14) (number 5 14))))) 11
+    -- SM
+    ∷ refused (streams false 1 sevens) 10
+    ∷ refused (streams true 8 sevens) 11
+    ∷ refused (streams true 1 (3 ∷ 0 ∷ 0 ∷ 0 ∷ 0 ∷ 0 ∷ 0 ∷ [])) 11
+    ∷ sends (streams true 2 (7 ∷ 8 ∷ 0 ∷ 0 ∷ 0 ∷ 0 ∷ 0 ∷ [])) "0012SM064D7DT2B"
+    ∷ sends (streams true 7 sevens) "0012SM154D7D7D7D7D7D7D7Z"
+    -- V1: no lock on this side
+    ∷ refused (asksV1 (SetFactor 900)) 11
+    ∷ refused (asksV1 (SetFactor 1000000)) 10
+    ∷ sends (asksV1 (SetFactor 100)) "001c000100U"
+    ∷ sends (asksV1 Unlock) "001c1e"
+    ∷ []
+
+abbrev pub right : Case → Bool
+right c = eqb (c .answer .number) (c .number) && sameText (c .answer .reply) (c .text)
+
+pub all-written : every right cases ≡ true
+unfolding bytes every sameText pick within numeralFrom sumOf checksumOf endOf closed frameV1 frameV2 units sizeOf normalOf plus minus belowOf signText trimmed pointed exponentText writtenOf wholeText twoDecimals sourceText among listOf listText putOf unitText transitionText streamText readText factorIn limitedOf directOf betweenOf transitionOf commandText canRestore lacksAccess setOf accessOf commandIn headFor dataV2 unitCode letterV1 dataV1 limitedNumber endsIn typedDigit judgedDigit typedAddress typedStream typedVerdict formedV2 formedV1 sentV2 requestWrittenV2 requestWrittenV1
+all-written = refl
+
+-- requests that are not the same: another number, another form of ST
+pub other-number : SameV2 (Set (Switch (Direct (number 5 14)))) (Set (Switch (Direct (number 6 14)))) → ⊥
+unfolding sameValue plus minus units
+other-number e = absurd (let z : _≡_ {A = ℕ} 0 1 = cc in omega arith)
+
+pub other-form : SameV2 (Set (Switch (Direct (number 5 14)))) (Set (Switch (Between (number 5 14) (number 6 14)))) → ⊥
+other-form e = e
+
+-- and the same by value: 5 and 5.0
+pub same-number : SameV2 (Set (Switch (Direct (number 5 14)))) (Set (Switch (Direct (number 500000 9))))
+unfolding sameValue plus minus units
+same-number = refl

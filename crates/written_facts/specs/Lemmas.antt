@@ -1,0 +1,3 @@
+-- Lemmas of the round trip.
+pub mod Typed
+pub mod Asked

@@ -1,0 +1,6 @@
+-- Typed requests that are written and read again.
+pub mod Same
+pub mod Lemmas
+pub mod Back
+pub mod Again
+pub mod Examples

@@ -29,7 +29,7 @@ use Rattle.requests.specs.declared.RequestV2.{RequestV2}
 use Rattle.requests.specs.declared.RequestV2.the-variants as ask
 use Rattle.request_texts.specs.RequestText.{accessOf, commandIn, dataV2}
 use Rattle.replies_v2_values.specs.Value.{measuredReply, pressureReply, degreesReply, temperatureReply, filamentReply, statusReply, heldReply, bothEnds, transitionReply, settingReply, valueReply, valueList}
-use Rattle.replies_v2.specs.ReplyV2.{notV2, otherAccess, otherCommand, mismatched, errorReply, doneReply, dataReply, readV2, beside, dataList, readList, readShownV2}
+use Rattle.replies_v2.specs.ReplyV2.{notV2, otherAccess, otherCommand, mismatched, errorReply, doneReply, dataReply, bodyReply, readV2, beside, dataList, readList, readShownV2}
 
 -- the address and the request that the reader is told, the bytes, what they are read as, and the list beside it
 pub record Case : Type 0 where
@@ -124,5 +124,5 @@ abbrev pub right : Case → Bool
 right c = sameText (readShownV2 (readV2 (c .address) (c .request) (c .frame))) (c .shown) && sameText (readList (c .address) (c .request) (c .frame)) (c .list)
 
 pub all-read : every right cases ≡ true
-unfolding bytes pick within every sameText untilOf numeralFrom sumOf checksumOf isLetter lengthFits misshapen wrongSum wrongAddress wrongLength headV2 errorBytes units sizeOf normalOf leading startsWith powerOf exponentOf fractionOf unsignedOf scanOf answerOf numberOf plus minus belowOf countedOf hundredthsOf signText trimmed pointed exponentText writtenOf wholeText twoDecimals sourceText isSource findSource sourceOf listOf listText onto parts sourceTexts entriesOf opens entriesNumber entriesList putOf unitText transitionText streamText readText takes addressData unitData factorIn factorOf digitData digitOf limitedOf directOf betweenOf endsOf transitionOf transitionData idleList knownMode streamOf streamData verdictOf ifSet listIn commandText accessOf commandIn dataV2 measuredReply pressureReply degreesReply temperatureReply filamentReply statusReply heldReply bothEnds transitionReply settingReply valueReply valueList notV2 otherAccess otherCommand mismatched errorReply doneReply dataReply readV2 beside dataList readList readShownV2
+unfolding bytes pick within every sameText untilOf numeralFrom sumOf checksumOf isLetter lengthFits misshapen wrongSum wrongAddress wrongLength headV2 errorBytes units sizeOf normalOf leading startsWith powerOf exponentOf fractionOf unsignedOf scanOf answerOf numberOf plus minus belowOf countedOf hundredthsOf signText trimmed pointed exponentText writtenOf wholeText twoDecimals sourceText isSource findSource sourceOf listOf listText onto parts sourceTexts entriesOf opens entriesNumber entriesList putOf unitText transitionText streamText readText takes addressData unitData factorIn factorOf digitData digitOf limitedOf directOf betweenOf endsOf transitionOf transitionData idleList knownMode streamOf streamData verdictOf ifSet listIn commandText accessOf commandIn dataV2 measuredReply pressureReply degreesReply temperatureReply filamentReply statusReply heldReply bothEnds transitionReply settingReply valueReply valueList notV2 otherAccess otherCommand mismatched errorReply doneReply dataReply bodyReply readV2 beside dataList readList readShownV2
 all-read = refl

@@ -1,7 +1,7 @@
 -- Document 01, "The master's side": any bytes read as the reply to a V2 request, or the first refusal that applies. Assumes nothing.
 use mathlib.Core.Path.{_≡_}
 use mathlib.Core.Bool.{Bool, not, _&&_, _||_}
-use mathlib.Core.List.{List, [], _∷_, _++_}
+use mathlib.Core.List.{List, [], _∷_, _++_, map}
 use Prim.Native.Nat.{ℕ, _+_}
 use lib.Dec.{eqb}
 use lib.ListN.{length}
@@ -11,6 +11,7 @@ use Rattle.decimal_text.specs.Written.{writtenOf, twoDecimals}
 use Rattle.frames.specs.Frame.{dataFrom, misshapen, wrongSum, wrongAddress, wrongLength, headV2}
 use Rattle.frames.specs.declared.HeadV2.{HeadV2}
 use Rattle.frame_writer.specs.Error.{errorBytes}
+use Rattle.frame_writer.specs.declared.ErrorText.{ErrorText}
 use Rattle.frame_writer.specs.declared.ErrorText.the-variants as error
 use Rattle.sources.specs.Source.{listOf}
 use Rattle.requests.specs.Command.{commandText}
@@ -44,18 +45,13 @@ otherCommand r h =
 unfoldable pub mismatched : RequestV2 → HeadV2 → Bool
 mismatched r h = otherAccess r (h .access) || otherCommand r h
 
+-- the table's six error texts
+abbrev pub errors : List ErrorText
+errors = error.Length ∷ error.Logic ∷ error.NoDef ∷ error.Syntax ∷ error.Range ∷ error.Error1 ∷ []
+
 -- "With access 7 the data is one of the table's six error texts and the answer is that error; any other data is 10."
 unfoldable pub errorReply : List ℕ → ReadV2
-errorReply s =
-    first
-    (sameText s (errorBytes error.Length) ⇒ Read (Error error.Length)
-    ∷ sameText s (errorBytes error.Logic) ⇒ Read (Error error.Logic)
-    ∷ sameText s (errorBytes error.NoDef) ⇒ Read (Error error.NoDef)
-    ∷ sameText s (errorBytes error.Syntax) ⇒ Read (Error error.Syntax)
-    ∷ sameText s (errorBytes error.Range) ⇒ Read (Error error.Range)
-    ∷ sameText s (errorBytes error.Error1) ⇒ Read (Error error.Error1)
-    ∷ [])
-    (Refused 10)
+errorReply s = first (map (λ (e : ErrorText). sameText s (errorBytes e) ⇒ Read (Error e)) errors) (Refused 10)
 
 -- "Write and default replies carry no data."
 unfoldable pub doneReply : List ℕ → ReadV2
@@ -66,7 +62,16 @@ dataReply (request.Read c) s = valueReply c s
 dataReply (request.Restore c) s = doneReply s
 dataReply (request.Set x) s = doneReply s
 
--- "in the order 2 (V1 frames too), 3, 4, 5, 6, 14 (access neither request plus 1 nor 7, or another command), 10, 11"
+-- a head and its data: "14 (access neither request plus 1 nor 7, or another command), 10, 11"
+unfoldable pub bodyReply : RequestV2 → HeadV2 → List ℕ → ReadV2
+bodyReply r h s =
+    first
+    (mismatched r h ⇒ Refused 14
+    ∷ eqb (h .access) errorCode ⇒ errorReply s
+    ∷ [])
+    (dataReply r s)
+
+-- any bytes: "in the order 2 (V1 frames too), 3, 4, 5, 6", and then 14, 10 and 11
 unfoldable pub readV2 : ℕ → RequestV2 → List ℕ → ReadV2
 readV2 address r s =
     first
@@ -75,10 +80,8 @@ readV2 address r s =
     ∷ wrongAddress s ⇒ Refused 4
     ∷ not (eqb (headV2 s .address) address) ⇒ Refused 5
     ∷ wrongLength s ⇒ Refused 6
-    ∷ mismatched r (headV2 s) ⇒ Refused 14
-    ∷ eqb (headV2 s .access) errorCode ⇒ errorReply (dataFrom 8 s)
     ∷ [])
-    (dataReply r (dataFrom 8 s))
+    (bodyReply r (headV2 s) (dataFrom 8 s))
 
 -- the sources of a read of SM stand beside its accepted value, and beside nothing else
 unfoldable pub beside : ReadV2 → List ℕ → List ℕ
@@ -110,14 +113,6 @@ pub record ReadsV2 (address : ℕ) (r : RequestV2) (s : List ℕ) (a : AnswerV2)
 pub record DataReads (r : RequestV2) (s : List ℕ) (a : AnswerV2) : Type 0 where
   pub read : a .read ≡ dataReply r s
   pub list : listOf (a .sources) ≡ dataList r s
-
-unfoldable pub bodyReply : RequestV2 → HeadV2 → List ℕ → ReadV2
-bodyReply r h s =
-    first
-    (mismatched r h ⇒ Refused 14
-    ∷ eqb (h .access) errorCode ⇒ errorReply s
-    ∷ [])
-    (dataReply r s)
 
 pub record BodyReads (r : RequestV2) (h : HeadV2) (s : List ℕ) (a : AnswerV2) : Type 0 where
   pub read : a .read ≡ bodyReply r h s

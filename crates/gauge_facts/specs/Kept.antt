@@ -38,7 +38,7 @@ fresh-sound = record { settings = factory-sound; readings = readings.start-sound
 
 module _ (g : State) (room : ℕ) (s : List ℕ) where
   -- an accepted V1 request is decided by the rules of V1
-  decided : isV1 s ≡ true → eqb (numberOf g room s) 0 ≡ true → numberOf g room s ≡ decidedV1 g (askedV1 s)
+  pub decided : isV1 s ≡ true → eqb (numberOf g room s) 0 ≡ true → numberOf g room s ≡ decidedV1 g (askedV1 s)
   unfolding numberOf
   decided l e =
       let a = past-row _ 1 _ refl e in

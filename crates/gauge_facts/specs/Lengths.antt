@@ -4,8 +4,8 @@ use mathlib.Core.Bool.{Bool, true, false, true≢false, and-eq-true-iff}
 use mathlib.Core.List.{List}
 use Prim.Native.Nat.{ℕ, _+_, _≤_}
 use native.Mathlib.Omega.{arith}
-use borrow.Author.Tests.{not-false}
-use lib.Dec.{eqb}
+use borrow.Author.Tests.{ltb-false, not-false}
+use lib.Dec.{eqb, ltb}
 use lib.ListN.{length, length-append}
 use Rattle.buffer.specs.First.{pick}
 use Rattle.buffer.specs.Byte.{at, within, isDigit}
@@ -40,7 +40,8 @@ use Rattle.gauge_rules.specs.State.{State}
 use Rattle.gauge_rules.specs.RulesV2.{sentText, textV2}
 use Rattle.gauge_rules_v1.specs.RulesV1.{textV1}
 use Rattle.gauge_table.specs.Asked.{isV1}
-use Rattle.gauge_table.specs.Table.{numberOf}
+use Rattle.gauge_table.specs.Table.{answerRoom, numberOf}
+use Rattle.gauge_table.specs.DecidedV2.{by}
 use Rattle.gauge_table.specs.Reply.{acceptedV2, acceptedV1, replyOf}
 use Rattle.gauge_facts.specs.Kept.{SoundState}
 use Rattle.gauge_facts.specs.Lemmas.Rows.{past-row}
@@ -159,3 +160,11 @@ module _ (g : State) (few : length (g .settings .list) ≤ mostEntries) where
 -- in every state that calls reach
 pub sound-fits : (g : State) → SoundState g → (room : ℕ) (s : List ℕ) → length (replyOf g s (numberOf g room s)) ≤ 64
 sound-fits g f = reply-fits g (f .settings .list .few)
+
+-- and it lies within the memory lent: below 64 bytes there is none
+pub within-lent : (g : State) → SoundState g → (room : ℕ) (s : List ℕ) → length (replyOf g s (numberOf g room s)) ≤ room
+unfolding numberOf replyOf pick within
+within-lent g f room s =
+    by (ltb room answerRoom)
+    (λ e. rw e (omega arith))
+    (λ e. omega (arith, sound-fits g f room s, ltb-false room answerRoom e))

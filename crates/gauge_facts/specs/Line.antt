@@ -3,6 +3,7 @@ use mathlib.Core.Path.{_≡_, refl}
 use mathlib.Core.List.{List, [], _∷_, map}
 use Prim.Native.Nat.{ℕ, _≤_}
 use native.Mathlib.Omega.{arith}
+use borrow.Author.Tests.{ltb-false}
 use lib.ListN.{length}
 use Rattle.buffer.specs.Answer.{Answer}
 use Rattle.buffer.proofs.Rules.{each}
@@ -33,3 +34,12 @@ line-fits room h r k =
   where
     Fits : Answer → Type 0
     Fits a = length (a .reply) ≤ 96
+
+-- and it lies within the memory lent
+pub line-within-lent : (room : ℕ) (h : Held) (r : Readings) → length (h .list) ≤ mostEntries → length (lineAnswer room h r .reply) ≤ room
+unfolding lineAnswer
+line-within-lent room h r k =
+    each Fits _ _ _ (λ _. omega arith) (λ e. each Fits _ _ _ (λ _. omega arith) (λ _. omega (arith, line-le (h .list) r k, ltb-false room (longestLine standard) e, longest-is)))
+  where
+    Fits : Answer → Type 0
+    Fits a = length (a .reply) ≤ room

@@ -77,6 +77,14 @@ pub accepts-exactly : (room : ℕ) (g : Gauge) (s : List ℕ) → isAccepted (ju
 unfolding judgement isAccepted
 accepts-exactly room g s = accepted-rows (rowsOf room g s) (meaning s) (refl, (refl, (refl, (refl, (refl, (refl, (refl, (refl, (refl, (refl, (refl, (refl, (refl, refl)))))))))))))
 
+-- what the gauge judged has P, if every refusal has it, and the request where no row applies
+pub judged : (P : Asked → Type 0) (room : ℕ) (g : Gauge) (s : List ℕ) → ((k : ℕ) → P (Silent k)) → ((e : ℕ) → P (Error e))
+    → (none (rowsOf room g s) ≡ true → P (Accepted (meaning s))) → P (judgement room g s)
+unfolding judgement
+judged P room g s silent error accepted =
+    gives P (rowsOf room g s) (Accepted (meaning s))
+    (silent 21, (silent 22, (silent 23, (error 100, (error 104, (error 102, (error 101, (error 3, (error 1, (error 2, (error 4, (error 2, (error 0, refl))))))))))))) accepted
+
 -- the answer's number is document 01's number of what the gauge judged
 pub number-is : (room : ℕ) (g : Gauge) (s : List ℕ) → answerOf room g s .number ≡ askedNumber (judgement room g s)
 unfolding answerOf replyTo askedNumber
@@ -152,14 +160,18 @@ unfolding taken judgement askedNumber isAccepted
 number-20 room g s =
     gives taken (rowsOf room g s) (Accepted (meaning s)) (refl, (refl, (refl, (refl, (refl, (refl, (refl, (refl, (refl, (refl, (refl, (refl, (refl, refl))))))))))))) (λ _. refl)
 
+-- a request is accepted exactly if it is answered 20
+pub accepted-number : (room : ℕ) (g : Gauge) (s : List ℕ) → eqb (answerOf room g s .number) 20 ≡ isAccepted (judgement room g s)
+unfolding taken
+accepted-number room g s = ap (λ (n : ℕ). eqb n 20) (number-is room g s) ∙ number-20 room g s
+
 -- the number is 20 exactly if these conditions hold, in document 01's order
 pub accepted-exactly : (room : ℕ) (g : Gauge) (s : List ℕ)
     → eqb (answerOf room g s .number) 20
     ≡ (roomFits room && (frameFits s && (addressFits s && (checksumFits s && (headerFits s && (commandFits s && (accessFits s && (dataFits s && stateFits g s))))))))
-unfolding none taken
+unfolding none
 accepted-exactly room g s =
-    ap (λ (n : ℕ). eqb n 20) (number-is room g s)
-    ∙ number-20 room g s
+    accepted-number room g s
     ∙ accepts-exactly room g s
     ∙ grouped
     (ltb room 32) (wrongShape s) (foreign 0 s) (wrongCrc s) (wrongVersion s) (acknowledges s) (unknownCmd s) (unknownPid s) (lacksAccess s) (indexed s) (wrongCount s) (outside s)
@@ -220,23 +232,38 @@ none-drop zero rows e = e
 none-drop (suc k) [] e = refl
 none-drop (suc k) ((t ⇒ a) ∷ rows) e = none-drop k rows (and-eq-true-iff (not t) (none rows) .0 e .1)
 
-second-false : (a b : Bool) → (a || b) ≡ false → b ≡ false
-second-false true b e = absurd (true≢false e)
-second-false false b e = e
+front-false : (t : Bool) (a : Asked) (rows : List (Row Asked)) → none ((t ⇒ a) ∷ rows) ≡ true → t ≡ false
+unfolding none
+front-false t a rows e = not-true t (and-eq-true-iff (not t) (none rows) .0 e .0)
 
-inside : (room : ℕ) (g : Gauge) (s : List ℕ) → none (rowsOf room g s) ≡ true → outsideOf (meaning s) ≡ false
-unfolding none outside
-inside room g s n =
-    let last = none-drop 11 (rowsOf room g s) n in
-    second-false (wrongMode s) (outsideOf (meaning s)) (not-true (outside s) (and-eq-true-iff (not (outside s)) (not (unavailable g (meaning s)) && true) .0 last .0))
+or-false : (a b : Bool) → (a || b) ≡ false → (a ≡ false) × (b ≡ false)
+or-false true b e = absurd (true≢false e)
+or-false false b e = (refl, e)
+
+-- what the tests of CMD, PID, access and value say of an accepted request
+pub record Passed (s : List ℕ) : Type 0 where
+  pub cmd : unknownCmd s ≡ false
+  pub pid : unknownPid s ≡ false
+  pub access : lacksAccess s ≡ false
+  pub mode : wrongMode s ≡ false
+  pub value : outsideOf (meaning s) ≡ false
+
+pub passed : (room : ℕ) (g : Gauge) (s : List ℕ) → none (rowsOf room g s) ≡ true → Passed s
+unfolding outside
+passed room g s n =
+    let rows = rowsOf room g s in
+    let in-limits = or-false (wrongMode s) (outsideOf (meaning s)) (front-false (outside s) _ _ (none-drop 11 rows n)) in
+    record {
+      cmd = front-false (unknownCmd s) _ _ (none-drop 6 rows n);
+      pid = front-false (unknownPid s) _ _ (none-drop 7 rows n);
+      access = front-false (lacksAccess s) _ _ (none-drop 8 rows n);
+      mode = in-limits .0;
+      value = in-limits .1;
+    }
 
 -- settings stay within their limits, whatever is asked
 pub stays-sound : (room : ℕ) (g : Gauge) (s : List ℕ) → sound (g .settings) ≡ true → sound (afterOf room g s .settings) ≡ true
-unfolding afterOf after judgement
+unfolding afterOf after
 stays-sound room g s h =
-    gives
-    (λ (a : Asked). sound (after g a .settings) ≡ true)
-    (rowsOf room g s)
-    (Accepted (meaning s))
-    (h, (h, (h, (h, (h, (h, (h, (h, (h, (h, (h, (h, (h, refl)))))))))))))
-    (λ n. entered-sound (g .settings) h (meaning s) (inside room g s n))
+    judged (λ (a : Asked). sound (after g a .settings) ≡ true) room g s (λ _. h) (λ _. h)
+    (λ n. entered-sound (g .settings) h (meaning s) (passed room g s n .value))

@@ -1,0 +1,2 @@
+-- Histories of calls: what holds of each call, and what the last call said.
+pub mod Latest

@@ -1,0 +1,1 @@
+// Definitions on histories of calls: see specs/.

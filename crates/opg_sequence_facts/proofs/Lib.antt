@@ -1,0 +1,2 @@
+-- What ties the sequences to the functions' contracts.
+pub mod Bridge

@@ -1,0 +1,1 @@
+// Theorems on any sequence of calls to the simulated OPG: see specs/.

@@ -1,0 +1,3 @@
+-- Lemmas for the play.
+pub mod Turns
+pub mod Sofar

@@ -1,0 +1,120 @@
+-- The loop of a play on plain values: what holds of the calls made so far, how one call more keeps it, and what it gives at the end.
+-- Assumes nothing.
+use mathlib.Core.Path.{_≡_, refl, sym, ap, subst, _∙_}
+use mathlib.Core.Bool.{true, false, not, true≢false}
+use mathlib.Core.Logic.{inl, inr}
+use mathlib.Core.List.{List, [], _∷_, _++_}
+use Prim.Native.Nat.{ℕ, suc, _+_, _<_, _≤_}
+use native.Mathlib.Numerals.{add-one}
+use native.Mathlib.Omega.{arith}
+use lib.ListN.{length, drop, getD, set, length-append, length-set}
+use lib.Seq.{drop-cons, append-snoc, set-at}
+use Rattle.sequence_facts.specs.Claimed as text
+use Rattle.opg_sequence_facts.specs.Claimed as opg
+use Rattle.player.specs.Played.{Exchange, History, numberOf, lengthOf, Plays, begin, then, inOrder, Claims, Ended, stuck, Ran}
+use Rattle.player.specs.Inner.{Traces, Took, One}
+use Rattle.player.specs.declared.Gauges.{Gauges}
+use Rattle.player.specs.declared.Turn.{Turn}
+
+-- the calls so far: a history, the gauges that it left, the script's calls, and what was kept of the answers
+pub record Sofar (script memory₀ numbers₀ lens₀ : List ℕ) (g : Gauges) (at used i : ℕ) (memory numbers lens : List ℕ) : Type 0 where
+  pub history : History
+  pub plays : Plays script memory₀ history at used memory
+  pub trace : Traces history g
+  pub count : i ≡ length history
+  pub numbers-are : numbers ≡ inOrder numberOf history ++ drop i numbers₀
+  pub lengths-are : lens ≡ inOrder lengthOf history ++ drop i lens₀
+  pub at-in : at ≤ length script
+  pub used-in : used ≤ length memory
+  pub memory-long : length memory ≡ length memory₀
+  pub numbers-long : length numbers ≡ length numbers₀
+  pub lens-long : length lens ≡ length lens₀
+
+pub first : (script memory numbers lens : List ℕ) (g : Gauges) → Traces [] g → Sofar script memory numbers lens g 0 0 0 memory numbers lens
+first script memory numbers lens g t =
+    record {
+      history = [];
+      plays = begin;
+      trace = t;
+      count = refl;
+      numbers-are = refl;
+      lengths-are = refl;
+      at-in = omega arith;
+      used-in = omega arith;
+      memory-long = refl;
+      numbers-long = refl;
+      lens-long = refl;
+    }
+
+-- one for each call
+one-each : (f : Exchange → ℕ) (h : History) → length (inOrder f h) ≡ length h
+one-each f [] = refl
+one-each f (e ∷ h) = length-append (inOrder f h) (f e ∷ []) ∙ add-one (length (inOrder f h)) ∙ ap suc (one-each f h)
+
+-- one answer more is kept
+keep : (p d l : List ℕ) (i v w : ℕ) → l ≡ p ++ drop i d → i ≡ length p → i < length d → v ≡ w → set l i v ≡ p ++ (w ∷ []) ++ drop (i + 1) d
+keep p d l i v w e k h f =
+    ap (λ (x : List ℕ). set x i v) e ∙ ap (λ (x : List ℕ). set (p ++ x) i v) (drop-cons d i 0 h)
+    ∙ set-at p (getD d i 0) (drop (suc i) d) v i (sym k) ∙ ap (λ (x : ℕ). p ++ x ∷ drop (suc i) d) f ∙ sym (append-snoc p w (drop (suc i) d))
+    ∙ ap (λ (n : ℕ). p ++ (w ∷ []) ++ drop n d) (sym (add-one i))
+
+kept : (f : Exchange → ℕ) (e : Exchange) (h : History) (d l : List ℕ) (i v : ℕ) → l ≡ inOrder f h ++ drop i d → i ≡ length h → i < length d → v ≡ f e
+    → set l i v ≡ inOrder f (e ∷ h) ++ drop (i + 1) d
+kept f e h d l i v p c k q = keep (inOrder f h) d l i v (f e) p (c ∙ sym (one-each f h)) k q
+
+took : {script memory₀ numbers₀ lens₀ : List ℕ} {g : Gauges} {at used i : ℕ} {memory numbers lens : List ℕ} {r : Turn} {memory′ : List ℕ}
+    → i < length numbers₀ → i < length lens₀ → length memory′ ≡ length memory → Sofar script memory₀ numbers₀ lens₀ g at used i memory numbers lens
+    → Took script memory g at used r memory′
+    → Sofar script memory₀ numbers₀ lens₀ (r .gauges) (r .at) (r .used) (i + 1) memory′ (set numbers i (r .number)) (set lens i (r .len))
+took {numbers₀ = numbers₀} {lens₀ = lens₀} {i = i} {numbers = numbers} {lens = lens} {r = r} in-numbers in-lens same s t =
+    record {
+      history = t .exchange ∷ s .history;
+      plays = then (s .plays) (t .takes);
+      trace = t .made .follows (s .history) (s .trace);
+      count = add-one i ∙ ap suc (s .count);
+      numbers-are = kept numberOf (t .exchange) (s .history) numbers₀ numbers i (r .number) (s .numbers-are) (s .count) in-numbers (t .made .number-is);
+      lengths-are = kept lengthOf (t .exchange) (s .history) lens₀ lens i (r .len) (s .lengths-are) (s .count) in-lens (t .made .length-is);
+      at-in = t .at-in;
+      used-in = subst (λ (k : ℕ). r .used ≤ k) (sym same) (t .used-in);
+      memory-long = same ∙ s .memory-long;
+      numbers-long = length-set numbers i (r .number) ∙ s .numbers-long;
+      lens-long = length-set lens i (r .len) ∙ s .lens-long;
+    }
+
+-- a call was made: it is kept
+pub next : {script memory₀ numbers₀ lens₀ : List ℕ} {g : Gauges} {at used i : ℕ} {memory numbers lens : List ℕ} {r : Turn} {memory′ : List ℕ}
+    → i < length numbers₀ → i < length lens₀ → length memory′ ≡ length memory → not (r .more) ≡ false
+    → Sofar script memory₀ numbers₀ lens₀ g at used i memory numbers lens → One script memory g at used r memory′
+    → Sofar script memory₀ numbers₀ lens₀ (r .gauges) (r .at) (r .used) (i + 1) memory′ (set numbers i (r .number)) (set lens i (r .len))
+next in-numbers in-lens same more s (inl q) = absurd (true≢false (sym (ap not (q .none-made)) ∙ more))
+next in-numbers in-lens same more s (inr t) = took in-numbers in-lens same s t
+
+-- the claim follows for each gauge
+claimed : {h : History} {g : Gauges} → Traces h g → Claims h g
+claimed t = record { of-text-gauge = text.claimed (t .of-text-gauge); of-opg-gauge = opg.claimed (t .of-opg-gauge) }
+
+-- the end of the play
+pub done : {script memory₀ numbers₀ lens₀ : List ℕ} {g : Gauges} {at used i : ℕ} {memory numbers lens : List ℕ}
+    → Sofar script memory₀ numbers₀ lens₀ g at used i memory numbers lens
+    → Ended script memory numbers₀ lens₀ i at used → Ran script memory₀ numbers₀ lens₀ g i memory numbers lens
+done {at = at} {used = used} s e =
+    record {
+      history = s .history;
+      at = at;
+      used = used;
+      plays = s .plays;
+      memory-long = s .memory-long;
+      calls-are = s .count;
+      numbers-are = s .numbers-are;
+      lengths-are = s .lengths-are;
+      claims = claimed (s .trace);
+      ended = e;
+    }
+
+-- no call was made: all is as it was
+pub ends : {script memory₀ numbers₀ lens₀ : List ℕ} {g : Gauges} {at used i : ℕ} {memory numbers lens : List ℕ} {r : Turn} {memory′ : List ℕ}
+    → not (r .more) ≡ true → Sofar script memory₀ numbers₀ lens₀ g at used i memory numbers lens
+    → One script memory g at used r memory′ → Ran script memory₀ numbers₀ lens₀ g i memory′ numbers lens
+ends {script} {memory₀} {numbers₀} {lens₀} {g} {at} {used} {i} {memory} {numbers} {lens} {r} {memory′} stop s (inl q) =
+    subst (λ (m : List ℕ). Ran script memory₀ numbers₀ lens₀ g i m numbers lens) (sym (q .memory-is)) (done s (stuck (q .why)))
+ends stop s (inr t) = absurd (true≢false (sym stop ∙ ap not (t .made .more-is)))

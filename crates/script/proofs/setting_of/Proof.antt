@@ -1,0 +1,23 @@
+-- `script::setting_of` meets its contract. Assumes nothing.
+use native.Mathlib.Omega.{arith}
+use borrow.Author.Needs.{needs}
+use Rattle.buffer.proofs.Rules.{rules}
+use Rattle.script.specs.Script.{settingOf}
+use Rattle.script.proofs.setting_of.Statement.{statement}
+use Rattle.script.proofs.setting_of.Tie as tie
+
+pub setting-of-spec : {M : Type 1} → statement M
+unfolding settingOf
+setting-of-spec =
+    tie.close
+    (tie.spec
+    (λ c. (search rules depth 12, tt))
+    (λ c. search needs)
+    (λ c. search needs)
+    (λ c κs. search needs)
+    (λ c. (rw (← (c .value-of .ensures .0)) (search rules), (c .value-of .ensures .1, omega arith)))
+    (λ c. (search rules depth 12, (tt, omega arith)))
+    (λ c. (search rules depth 12, (tt, omega arith)))
+    (λ c. (search rules depth 12, (tt, omega arith)))
+    (λ c. (search rules depth 12, (tt, omega arith)))
+    (λ c. (search rules depth 12, tt)))

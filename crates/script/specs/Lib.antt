@@ -1,0 +1,3 @@
+-- Calls written as bytes.
+pub mod Number
+pub mod Script

@@ -1,0 +1,199 @@
+-- The claim holds of every sequence of calls from factory settings. Assumes nothing.
+use mathlib.Core.Path.{_≡_, refl, ap, subst, _∙_}
+use mathlib.Core.Bool.{Bool, true, false, cond, not, _&&_}
+use mathlib.Core.List.{List, [], _∷_, map}
+use mathlib.Core.Option.{Option, none, some}
+use Prim.Native.Nat.{ℕ, suc, _≤_}
+use native.Mathlib.Omega.{arith}
+use borrow.Author.Tests.{le-ltb, not-false}
+use lib.Dec.{eqb, ltb}
+use lib.ListN.{length, length-map}
+use Rattle.buffer.specs.First.{pick}
+use Rattle.buffer.specs.Byte.{at, within}
+use Rattle.buffer.specs.Answer.{Answer, Sent}
+use Rattle.buffer.specs.declared.Written.{Written}
+use Rattle.buffer.proofs.Laws.{within-true}
+use Rattle.frames.specs.Frame.{dataFrom, headV2}
+use Rattle.decimal.specs.Number.{belowOf}
+use Rattle.sources.specs.Source.{mostEntries}
+use Rattle.settings.specs.Limits.{standard, longestLine, longest-is}
+use Rattle.settings.specs.Settings.{Held, held, factory}
+use Rattle.settings.specs.declared.Key.{Key}
+use Rattle.readings.specs.Reading.{start, putReading}
+use Rattle.readings.specs.Bench.{benchOf, benchNumber}
+use Rattle.readings.specs.declared.Readings.{Readings}
+use Rattle.readings.specs.declared.Bench.{Bench}
+use Rattle.readings.specs.declared.Benched.{Benched}
+use Rattle.readings.specs.declared.Benched.the-variants as bench
+use Rattle.readings_facts.specs.Place.{Place, readingAt}
+use Rattle.readings_facts.specs.Sound.{Machine}
+use Rattle.requests.specs.AskV2.{askList}
+use Rattle.requests.specs.declared.RequestV1.the-variants.{Measure, ReadFactor, Unlock, SetFactor, ReadUnit, SetUnit}
+use Rattle.requests.specs.declared.AskV1.{AskV1}
+use Rattle.requests.specs.declared.AskV1.the-variants.{Asks, Denied}
+use Rattle.line.specs.Line.{valuesOf, lineAnswer}
+use Rattle.gauge_rules.specs.State.{State, stateOf, fresh}
+use Rattle.gauge_rules.specs.declared.Gauge.{Gauge}
+use Rattle.gauge_rules_v1.specs.RulesV1.{factorNumber, grantV1}
+use Rattle.gauge_table.specs.Asked.{isV1, askedV2, askedV1}
+use Rattle.gauge_table.specs.Table.{numberOf}
+use Rattle.gauge_table.specs.DecidedV2.{by}
+use Rattle.gauge_table.specs.DecidedV1.{decidedV1}
+use Rattle.gauge_table.specs.After.{answerOf, asksUnlock, afterwards, nextOf, benched}
+use Rattle.gauge.specs.Answer.{Answers, Benches}
+use Rattle.gauge_facts.specs.Kept.{SoundState, fresh-sound, next-sound, bench-sound, lower-below, decided}
+use Rattle.gauge_facts.specs.Refused.{readings-stay}
+use Rattle.gauge_facts.specs.Lemmas.Rows.{past-row}
+use Rattle.gauge_facts.specs.Lengths.{within-lent}
+use Rattle.gauge_facts.specs.Line.{line-fits, line-within-lent}
+use Rattle.history.specs.Latest.{orElse, latest, follows}
+use Rattle.sequence_facts.specs.Model.{step, modelOf}
+use Rattle.sequence_facts.specs.Sequence.{Exchange, asked, set, lined, History, fed, model, Trace, begin, ask, tell, show, AllFixed, Claim, holding, writes, forKey, saysSetting, forPlace, saysReading, isUnlock, saysUnlock}
+use Rattle.sequence_facts.specs.Lemmas.Settings.{v2-says, v1-says, FactorIn}
+use Rattle.sequence_facts.specs.Lemmas.Readings.{reading-says}
+use Rattle.sequence_facts.specs.Lemmas.Unlock.{unlock-is}
+
+-- ---- one request, on what the model holds
+
+module _ (m : State) (lent : ℕ) (s : List ℕ) where
+  -- an accepted factor is not above the limit
+  factor-in : (a : AskV1) → eqb (decidedV1 m a) 0 ≡ true → FactorIn a
+  unfolding decidedV1 grantV1 factorNumber
+  factor-in (Asks Measure) e = tt
+  factor-in (Asks ReadFactor) e = tt
+  factor-in (Asks Unlock) e = tt
+  factor-in (Asks (SetFactor n)) e =
+      let a = past-row (not (m .unlocked)) 12 _ refl e in
+      let b = past-row (not (within (standard .factorLow) (standard .factorHigh) n)) 11 0 refl (a .1) in
+      le-ltb 800 n (within-true (standard .factorLow) (standard .factorHigh) n (not-false _ (b .0)) .1)
+  factor-in (Asks ReadUnit) e = tt
+  factor-in (Asks (SetUnit u)) e = tt
+  factor-in (Denied k) e = tt
+
+  -- each setting afterwards is what the request says of it, or what it was
+  setting-next : (key : Key) → holding key (nextOf m lent s .settings) ≡ orElse (pick (eqb (numberOf m lent s) 0) (forKey key (writes s)) none) (holding key (m .settings))
+  unfolding nextOf afterwards pick orElse writes
+  setting-next key =
+      by (eqb (numberOf m lent s) 0)
+      (λ e. by (isV1 s)
+      (λ l. rw (e, l) (v1-says key (m .settings) (askedV1 s) (factor-in (askedV1 s) (rw (decided m lent s l e) at e))))
+      (λ l. rw (e, l) (v2-says key (m .settings) (askedV2 s) (askList (headV2 s) (dataFrom 8 s)))))
+      (λ e. rw e)
+
+  unlock-next : nextOf m lent s .unlocked ≡ orElse (pick (isV1 s && not (within 1 5 (numberOf m lent s))) (some (eqb (numberOf m lent s) 0 && isUnlock s)) none) (m .unlocked)
+  unfolding nextOf afterwards pick orElse isUnlock
+  unlock-next = rw (← (unlock-is (at s 3) (dataFrom 4 s))) (go (isV1 s && not (within 1 5 (numberOf m lent s))))
+    where
+      go : (b : Bool) → cond b (eqb (numberOf m lent s) 0 && asksUnlock (askedV1 s)) (m .unlocked) ≡ orElse (pick b (some (eqb (numberOf m lent s) 0 && asksUnlock (askedV1 s))) none) (m .unlocked)
+      go true = refl
+      go false = refl
+
+-- nothing is said
+unsaid : {A : Type 0} (a : A) → a ≡ orElse none a
+unfolding orElse
+unsaid a = refl
+
+-- ---- one bench setting
+
+module _ (m : State) where
+  reading-set : (p : Place) (x : Benched) → readingAt p (benched m x .readings) ≡ orElse (pick (eqb (benchNumber x) 0) (forPlace p x) none) (readingAt p (m .readings))
+  unfolding benched pick
+  reading-set p (bench.Accepted x) = reading-says p (m .readings) x
+  reading-set p bench.Refused = unsaid (readingAt p (m .readings))
+
+  settings-stay : (x : Benched) → benched m x .settings ≡ m .settings
+  unfolding benched
+  settings-stay (bench.Accepted x) = refl
+  settings-stay bench.Refused = refl
+
+  unlock-stays : (x : Benched) → benched m x .unlocked ≡ m .unlocked
+  unfolding benched
+  unlock-stays (bench.Accepted x) = refl
+  unlock-stays bench.Refused = refl
+
+-- ---- the sequence
+
+-- the claim without its last part, which follows from it
+record Sofar (h : History) (g : Gauge) : Type 0 where
+  answers : AllFixed h
+  holds : stateOf g ≡ model h
+  setting : (key : Key) → holding key (stateOf g .settings) ≡ latest (saysSetting key) (holding key factory) h
+  reading : (p : Place) → readingAt p (stateOf g .readings) ≡ latest (saysReading p) (readingAt p start) h
+  unlocked : stateOf g .unlocked ≡ latest saysUnlock false h
+  sound : SoundState (stateOf g)
+
+sent-too : {before after : List ℕ} {a b : Answer} {w : Written} → a ≡ b → Sent before a after w → Sent before b after w
+sent-too {before} {after} {w = w} e f = subst (λ (x : Answer). Sent before x after w) e f
+
+-- what was sent lies within the memory lent, since the reply does
+sent-within : {before after : List ℕ} {a : Answer} {w : Written} → length (a .reply) ≤ length before → Sent before a after w → w .len ≤ length before
+sent-within h f = rw (f .len) h
+
+sofar : {h : History} {g : Gauge} → Trace h g → Sofar h g
+unfolding modelOf step latest saysSetting saysReading saysUnlock answerOf
+sofar (begin {g} e) =
+    record {
+      answers = tt;
+      holds = e;
+      setting = λ key. ap (λ (m : State). holding key (m .settings)) e;
+      reading = λ p. ap (λ (m : State). readingAt p (m .readings)) e;
+      unlocked = ap (λ (m : State). m .unlocked) e;
+      sound = rw e fresh-sound;
+    }
+sofar (ask {h} {g} {s} {before} {after} {r} t a) =
+    let c = sofar t in
+    let e = asked s before (r .written .number) (r .written .len) after in
+    let n : r .written .number ≡ numberOf (stateOf g) (length before) s = a .sent .number in
+    record {
+      answers = ((sent-too (ap (λ (m : State). answerOf m (length before) s) (c .holds)) (a .sent), sent-within (within-lent (stateOf g) (c .sound) (length before) s) (a .sent)), c .answers);
+      holds = a .state ∙ ap (λ (m : State). nextOf m (length before) s) (c .holds);
+      setting = λ key. follows (saysSetting key) (holding key factory) e h _ _ (c .setting key) (ap (λ (m : State). holding key (m .settings)) (a .state) ∙ rw n (setting-next (stateOf g) (length before) s key));
+      reading = λ p. follows (saysReading p) (readingAt p start) e h _ _ (c .reading p) (ap (λ (m : State). readingAt p (m .readings)) (a .state) ∙ ap (readingAt p) (readings-stay (stateOf g) (length before) s) ∙ unsaid _);
+      unlocked = follows saysUnlock false e h _ _ (c .unlocked) (ap (λ (m : State). m .unlocked) (a .state) ∙ rw n (unlock-next (stateOf g) (length before) s));
+      sound = rw (a .state) (next-sound (stateOf g) (length before) s (c .sound));
+    }
+sofar (tell {h} {g} {b} {r} t k a) =
+    let c = sofar t in
+    let e = set b (r .number) in
+    record {
+      answers = (a .number, c .answers);
+      holds = a .state ∙ ap (λ (m : State). benched m (benchOf b)) (c .holds);
+      setting = λ key. follows (saysSetting key) (holding key factory) e h _ _ (c .setting key) (ap (λ (m : State). holding key (m .settings)) (a .state) ∙ ap (holding key) (settings-stay (stateOf g) (benchOf b)) ∙ unsaid _);
+      reading = λ p. follows (saysReading p) (readingAt p start) e h _ _ (c .reading p) (ap (λ (m : State). readingAt p (m .readings)) (a .state) ∙ rw (a .number) (reading-set (stateOf g) p (benchOf b)));
+      unlocked = follows saysUnlock false e h _ _ (c .unlocked) (ap (λ (m : State). m .unlocked) (a .state) ∙ unlock-stays (stateOf g) (benchOf b) ∙ unsaid _);
+      sound = rw (a .state) (bench-sound (stateOf g) b k (c .sound));
+    }
+sofar (show {h} {g} {before} {after} {w} t a) =
+    let c = sofar t in
+    let e = lined before (w .number) (w .len) after in
+    record {
+      answers = ((sent-too (ap (λ (m : State). lineAnswer (length before) (m .settings) (m .readings)) (c .holds)) a, sent-within (line-within-lent (length before) (held (g .settings)) (g .readings) (c .sound .settings .list .few)) a), c .answers);
+      holds = c .holds;
+      setting = λ key. follows (saysSetting key) (holding key factory) e h _ _ (c .setting key) (unsaid _);
+      reading = λ p. follows (saysReading p) (readingAt p start) e h _ _ (c .reading p) (unsaid _);
+      unlocked = follows saysUnlock false e h _ _ (c .unlocked) (unsaid _);
+      sound = c .sound;
+    }
+
+-- the line of a sound state
+few-values : (h : Held) (r : Readings) → length (h .list) ≤ mostEntries → length (valuesOf (h .list) r) ≤ 8
+unfolding valuesOf
+few-values h r k = rw length-map (omega arith)
+
+-- THE THEOREM
+pub claimed : {h : History} {g : Gauge} → Trace h g → Claim h g
+claimed {h} {g} t =
+    let c = sofar t in
+    let few = subst (λ (m : State). length (m .settings .list) ≤ mostEntries) (c .holds) (c .sound .settings .list .few) in
+    record {
+      answers = c .answers;
+      holds = c .holds;
+      setting = c .setting;
+      reading = c .reading;
+      unlocked = c .unlocked;
+      sound = c .sound;
+      below = λ low high e. lower-below (stateOf g) low high (c .sound) e;
+      line-is = λ before after w f. sent-too (ap (λ (m : State). lineAnswer (length before) (m .settings) (m .readings)) (c .holds)) f;
+      line-values = few-values (model h .settings) (model h .readings) few;
+      line-bytes = λ room. rw longest-is at (line-fits room (model h .settings) (model h .readings) few);
+    }

@@ -1,0 +1,1 @@
+// Theorems on whole sequences of calls of the text gauge, over its contracts alone: see specs/.

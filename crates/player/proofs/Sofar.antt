@@ -4,14 +4,15 @@ use mathlib.Core.Path.{_≡_, refl, sym, ap, subst, _∙_}
 use mathlib.Core.Bool.{true, false, not, true≢false}
 use mathlib.Core.Logic.{inl, inr}
 use mathlib.Core.List.{List, [], _∷_, _++_}
-use Prim.Native.Nat.{ℕ, suc, _+_, _<_, _≤_}
+use Prim.Native.Nat.{ℕ, zero, suc, _+_, _-_, _<_, _≤_, min}
+use native.Mathlib.Nat.{add-zero, add-suc}
 use native.Mathlib.Numerals.{add-one}
 use native.Mathlib.Omega.{arith}
 use lib.ListN.{length, drop, getD, set, length-append, length-set}
 use lib.Seq.{drop-cons, append-snoc, set-at}
 use Rattle.sequence_facts.specs.Claimed as text
 use Rattle.opg_sequence_facts.specs.Claimed as opg
-use Rattle.player.specs.Played.{Exchange, History, numberOf, lengthOf, Plays, begin, then, inOrder, Claims, Ended, stuck, Ran}
+use Rattle.player.specs.Played.{Exchange, History, numberOf, lengthOf, inOrder, Standing, advance, playOf, beginning, Claims, ends, Ran}
 use Rattle.player.specs.Inner.{Traces, Took, One}
 use Rattle.player.specs.declared.Gauges.{Gauges}
 use Rattle.player.specs.declared.Turn.{Turn}
@@ -19,7 +20,8 @@ use Rattle.player.specs.declared.Turn.{Turn}
 -- the calls so far: a history, the gauges that it left, the script's calls, and what was kept of the answers
 pub record Sofar (script memory₀ numbers₀ lens₀ : List ℕ) (g : Gauges) (at used i : ℕ) (memory numbers lens : List ℕ) : Type 0 where
   pub history : History
-  pub plays : Plays script memory₀ history at used memory
+  pub stands : playOf i script (beginning memory₀) ≡ record { history = history; at = at; used = used; memory = memory }
+  pub places : i ≤ min (length numbers₀) (length lens₀)
   pub trace : Traces history g
   pub count : i ≡ length history
   pub numbers-are : numbers ≡ inOrder numberOf history ++ drop i numbers₀
@@ -31,10 +33,12 @@ pub record Sofar (script memory₀ numbers₀ lens₀ : List ℕ) (g : Gauges) (
   pub lens-long : length lens ≡ length lens₀
 
 pub first : (script memory numbers lens : List ℕ) (g : Gauges) → Traces [] g → Sofar script memory numbers lens g 0 0 0 memory numbers lens
+unfolding playOf
 first script memory numbers lens g t =
     record {
       history = [];
-      plays = begin;
+      stands = refl;
+      places = omega arith;
       trace = t;
       count = refl;
       numbers-are = refl;
@@ -62,14 +66,26 @@ kept : (f : Exchange → ℕ) (e : Exchange) (h : History) (d l : List ℕ) (i v
     → set l i v ≡ inOrder f (e ∷ h) ++ drop (i + 1) d
 kept f e h d l i v p c k q = keep (inOrder f h) d l i v (f e) p (c ∙ sym (one-each f h)) k q
 
+-- one call more of the play
+advanced : (script : List ℕ) (b : Standing) {p q : Standing} (i : ℕ) → playOf i script b ≡ p → advance script p ≡ q → playOf (i + 1) script b ≡ q
+unfolding playOf
+advanced script b i e f = ap (λ (n : ℕ). playOf n script b) (add-one i) ∙ ap (advance script) e ∙ f
+
+-- where no call can be made, any number of turns more changes nothing
+rests : (script : List ℕ) (b : Standing) {p : Standing} (i k : ℕ) → playOf i script b ≡ p → advance script p ≡ p → playOf (i + k) script b ≡ p
+unfolding playOf
+rests script b i zero e f = ap (λ (n : ℕ). playOf n script b) (add-zero i) ∙ e
+rests script b i (suc k) e f = ap (λ (n : ℕ). playOf n script b) (add-suc i k) ∙ ap (advance script) (rests script b i k e f) ∙ f
+
 took : {script memory₀ numbers₀ lens₀ : List ℕ} {g : Gauges} {at used i : ℕ} {memory numbers lens : List ℕ} {r : Turn} {memory′ : List ℕ}
     → i < length numbers₀ → i < length lens₀ → length memory′ ≡ length memory → Sofar script memory₀ numbers₀ lens₀ g at used i memory numbers lens
     → Took script memory g at used r memory′
     → Sofar script memory₀ numbers₀ lens₀ (r .gauges) (r .at) (r .used) (i + 1) memory′ (set numbers i (r .number)) (set lens i (r .len))
-took {numbers₀ = numbers₀} {lens₀ = lens₀} {i = i} {numbers = numbers} {lens = lens} {r = r} in-numbers in-lens same s t =
+took {script} {memory₀} {numbers₀} {lens₀} {i = i} {numbers = numbers} {lens = lens} {r = r} in-numbers in-lens same s t =
     record {
       history = t .exchange ∷ s .history;
-      plays = then (s .plays) (t .takes);
+      stands = advanced script (beginning memory₀) i (s .stands) (t .advances (s .history) (s .trace));
+      places = omega arith;
       trace = t .made .follows (s .history) (s .trace);
       count = add-one i ∙ ap suc (s .count);
       numbers-are = kept numberOf (t .exchange) (s .history) numbers₀ numbers i (r .number) (s .numbers-are) (s .count) in-numbers (t .made .number-is);
@@ -96,25 +112,31 @@ claimed t = record { of-text-gauge = text.claimed (t .of-text-gauge); of-opg-gau
 -- the end of the play
 pub done : {script memory₀ numbers₀ lens₀ : List ℕ} {g : Gauges} {at used i : ℕ} {memory numbers lens : List ℕ}
     → Sofar script memory₀ numbers₀ lens₀ g at used i memory numbers lens
-    → Ended script memory numbers₀ lens₀ i at used → Ran script memory₀ numbers₀ lens₀ g i memory numbers lens
-done {at = at} {used = used} s e =
+    → ends script memory₀ numbers₀ lens₀ ≡ playOf i script (beginning memory₀) → Ran script memory₀ numbers₀ lens₀ g i memory numbers lens
+done {script} {memory₀} {numbers₀} {lens₀} {g} {at} {used} {i} {memory} {numbers} {lens} s e =
+    let p : ends script memory₀ numbers₀ lens₀ ≡ record { history = s .history; at = at; used = used; memory = memory } = e ∙ s .stands in
     record {
-      history = s .history;
-      at = at;
-      used = used;
-      plays = s .plays;
-      memory-long = s .memory-long;
-      calls-are = s .count;
-      numbers-are = s .numbers-are;
-      lengths-are = s .lengths-are;
-      claims = claimed (s .trace);
-      ended = e;
+      calls-are = rw p (s .count);
+      memory-is = rw p refl;
+      numbers-are = rw p (s .numbers-are);
+      lengths-are = rw p (s .lengths-are);
+      claims = rw p (claimed (s .trace));
     }
 
+-- there is no place for another answer
+pub full : {script memory₀ numbers₀ lens₀ : List ℕ} {g : Gauges} {at used i : ℕ} {memory numbers lens : List ℕ}
+    → Sofar script memory₀ numbers₀ lens₀ g at used i memory numbers lens → min (length numbers₀) (length lens₀) ≤ i → Ran script memory₀ numbers₀ lens₀ g i memory numbers lens
+full {script} {memory₀} {numbers₀} {lens₀} {i = i} s h =
+    let e : min (length numbers₀) (length lens₀) ≡ i = omega (arith, s .places) in
+    done s (ap (λ (n : ℕ). playOf n script (beginning memory₀)) e)
+
 -- no call was made: all is as it was
-pub ends : {script memory₀ numbers₀ lens₀ : List ℕ} {g : Gauges} {at used i : ℕ} {memory numbers lens : List ℕ} {r : Turn} {memory′ : List ℕ}
+pub stops : {script memory₀ numbers₀ lens₀ : List ℕ} {g : Gauges} {at used i : ℕ} {memory numbers lens : List ℕ} {r : Turn} {memory′ : List ℕ}
     → not (r .more) ≡ true → Sofar script memory₀ numbers₀ lens₀ g at used i memory numbers lens
     → One script memory g at used r memory′ → Ran script memory₀ numbers₀ lens₀ g i memory′ numbers lens
-ends {script} {memory₀} {numbers₀} {lens₀} {g} {at} {used} {i} {memory} {numbers} {lens} {r} {memory′} stop s (inl q) =
-    subst (λ (m : List ℕ). Ran script memory₀ numbers₀ lens₀ g i m numbers lens) (sym (q .memory-is)) (done s (stuck (q .why)))
-ends stop s (inr t) = absurd (true≢false (sym stop ∙ ap not (t .made .more-is)))
+stops {script} {memory₀} {numbers₀} {lens₀} {g} {at} {used} {i} {memory} {numbers} {lens} stop s (inl q) =
+    let places = min (length numbers₀) (length lens₀) in
+    let e : places ≡ i + (places - i) = omega (arith, s .places) in
+    subst (λ (m : List ℕ). Ran script memory₀ numbers₀ lens₀ g i m numbers lens) (sym (q .memory-is))
+    (done s (ap (λ (n : ℕ). playOf n script (beginning memory₀)) e ∙ rests script (beginning memory₀) i (places - i) (s .stands) (q .stands (s .history)) ∙ sym (s .stands)))
+stops stop s (inr t) = absurd (true≢false (sym stop ∙ ap not (t .made .more-is)))

@@ -6,17 +6,24 @@ use mathlib.Core.List.{List, _∷_, _++_, append-assoc}
 use Prim.Native.Nat.{ℕ, _+_, _-_, _<_, _≤_}
 use native.Mathlib.Nat.{add-sub-cancel-left}
 use native.Mathlib.Omega.{arith}
-use lib.ListN.{length, take, drop, length-append, length-take}
-use lib.Seq.{drop-drop}
+use lib.ListN.{length, take, drop, length-append, length-take, length-drop, take-append-drop}
+use lib.Seq.{drop-drop, drop-append-le, sets, sets-eq}
+use Rattle.buffer.specs.First.{pick}
 use Rattle.buffer.specs.Answer.{Answer, over, Sent}
 use Rattle.buffer.specs.declared.Written.{Written}
+use Rattle.readings.specs.Bench.{benchOf, benchNumber}
 use Rattle.readings.specs.declared.Bench.{Bench}
+use Rattle.opg_gauge.specs.State.{takes}
 use Rattle.opg_gauge.specs.declared.Pressure.{Pressure}
+use Rattle.sequence_facts.specs.Claimed as text
+use Rattle.opg_sequence_facts.specs.Claimed as opg
 use Rattle.script.specs.Script.{callAt, roomOf}
 use Rattle.script.specs.declared.To.{To}
+use Rattle.script.specs.declared.To.the-variants.{Text, Opg}
 use Rattle.script.specs.declared.Call.{Call}
 use Rattle.script.specs.declared.Call.the-variants.{Request, Line, Setting, Offer, End}
-use Rattle.player.specs.Played.{Exchange, asked, lined, told, offered, History, numberOf, lengthOf, part, withPart, Takes, request, line, setting, offer, no-call, no-memory}
+use Rattle.player.specs.Played.{Exchange, asked, lined, told, offered, History, numberOf, lengthOf, answerTo, lineFor, Standing, answered, made, advance}
+use Rattle.player.specs.Advance.{advances, stands}
 use Rattle.player.specs.Inner.{Traces, Made, One}
 use Rattle.player.specs.declared.Gauges.{Gauges}
 use Rattle.player.specs.declared.Turn.{Turn}
@@ -62,63 +69,139 @@ part-short memory used room h = simp length-take (omega arith)
 pub read : (P : Call → Type 0) (x : Call) {r k : Call} → (r ≡ x) × P r → r ≡ k → (x ≡ k) × P k
 read P x e q = (sym (e .0) ∙ q, subst P q (e .1))
 
--- a call was made that leaves this memory
-made-one : {script memory : List ℕ} {g : Gauges} {at used at′ used′ : ℕ} {e : Exchange} {r : Turn} {memory′ : List ℕ}
-    → Made g e at′ used′ r → Takes script memory at used e at′ used′ memory′ → at′ ≤ length script → used′ ≤ length memory
-    → One script memory g at used r memory′
-made-one {e = e} n t h k =
-    inr (record {
-      exchange = e;
-      made = record { more-is = n .more-is; at-is = refl; used-is = refl; number-is = n .number-is; length-is = n .length-is; follows = n .follows };
-      takes = rw (n .at-is, n .used-is) t;
-      at-in = rw (n .at-is) h;
-      used-in = rw (n .used-is) k;
-    })
+-- ---- the answers are those that the rules fix
 
--- the part that is lent, and the memory with it put back
-part-is : (s : List ℕ) (from n : ℕ) → take (from + n - from) (drop from s) ≡ part from n s
-part-is s from n = ap (λ (k : ℕ). take k (drop from s)) (add-sub-cancel-left from n)
+asked-fixed : (to : To) {g : Gauges} {h : History} {s before after : List ℕ} {n l : ℕ} → Traces (asked to s before n l after ∷ h) g
+    → Sent before (answerTo to h (length before) s) after (record { number = n; len = l }) × (l ≤ length before)
+asked-fixed Text t = text.claimed (t .of-text-gauge) .answers .0
+asked-fixed Opg t = opg.claimed (t .of-opg-gauge) .answers .0
 
-put-back : (memory after : List ℕ) (used room : ℕ) → take used memory ++ (after ++ drop (used + room - used) (drop used memory)) ≡ withPart used room after memory
-put-back memory after used room =
-    ap (λ (k : ℕ). take used memory ++ (after ++ drop k (drop used memory))) (add-sub-cancel-left used room)
-    ∙ ap (λ (l : List ℕ). take used memory ++ (after ++ l)) (drop-drop room used memory)
-    ∙ sym (append-assoc (take used memory) after (drop (used + room) memory))
+lined-fixed : {g : Gauges} {h : History} {before after : List ℕ} {n l : ℕ} → Traces (lined before n l after ∷ h) g
+    → Sent before (lineFor h (length before)) after (record { number = n; len = l }) × (l ≤ length before)
+lined-fixed t = text.claimed (t .of-text-gauge) .answers .0
 
--- a call was made that was lent a part of the memory
-lent-one : {script : List ℕ} (memory : List ℕ) {g : Gauges} {at : ℕ} (used room : ℕ) {at′ : ℕ} {e : Exchange} {r : Turn} (after : List ℕ)
-    → Made g e at′ (used + room) r → Takes script memory at used e at′ (used + room) (withPart used room after memory) → at′ ≤ length script
-    → used + room ≤ length memory → One script memory g at used r (take used memory ++ (after ++ drop (used + room - used) (drop used memory)))
-lent-one memory used room after n t h k = rw (put-back memory after used room) (made-one n t h k)
+told-fixed : {g : Gauges} {h : History} {b : Bench} {n : ℕ} → Traces (told b n ∷ h) g → n ≡ benchNumber (benchOf b)
+told-fixed t = text.claimed (t .of-text-gauge) .answers .0
+
+offered-fixed : {g : Gauges} {h : History} {p : Pressure} {n : ℕ} → Traces (offered p n ∷ h) g → n ≡ pick (takes p) 20 15
+offered-fixed t = opg.claimed (t .of-opg-gauge) .answers .0
+
+-- ---- the memory
+
+-- what is left of the part lent, and what follows it
+rest-of : (k n : ℕ) (l : List ℕ) → k ≤ length (take n l) → drop k (take n l) ++ drop n l ≡ drop k l
+rest-of k n l h = sym (drop-append-le k (take n l) (drop n l) h) ∙ ap (drop k) (take-append-drop n l)
+
+-- the part lent with the reply in it, put back: the reply stands in the memory
+put-back : (memory reply : List ℕ) (used room : ℕ) → used + room ≤ length memory → length reply ≤ length (take room (drop used memory))
+    → take used memory ++ (over reply (take room (drop used memory)) ++ drop room (drop used memory)) ≡ sets memory used reply
+unfolding over
+put-back memory reply used room h k =
+    let short = simp (length-take, length-drop) at k in
+    ap (λ (l : List ℕ). take used memory ++ l)
+    (append-assoc reply (drop (length reply) (take room (drop used memory))) (drop room (drop used memory))
+    ∙ ap (λ (l : List ℕ). reply ++ l) (rest-of (length reply) room (drop used memory) k ∙ drop-drop (length reply) used memory))
+    ∙ sym (append-assoc (take used memory) reply (drop (used + length reply) memory)) ∙ sym (sets-eq reply memory used (omega arith))
 
 -- ---- each kind of call
 
 module _ (script memory : List ℕ) (g : Gauges) (at used : ℕ) where
+  abbrev standing : History → Standing
+  standing h = record { history = h; at = at; used = used; memory = memory }
+
+  -- a call was made, and this stands after it
+  took-one : (e : Exchange) (at′ used′ : ℕ) (r : Turn) (memory′ : List ℕ) → Made g e at′ used′ r → at′ ≤ length script → used′ ≤ length memory
+      → ((h : History) → Traces h g → advance script (standing h) ≡ record { history = e ∷ h; at = at′; used = used′; memory = memory′ })
+      → One script memory g at used r memory′
+  took-one e at′ used′ r memory′ m h k f =
+      inr (record {
+        exchange = e;
+        made = record { more-is = m .more-is; at-is = refl; used-is = refl; number-is = m .number-is; length-is = m .length-is; follows = m .follows };
+        advances = λ h t. rw (m .at-is, m .used-is) (f h t);
+        at-in = rw (m .at-is) h;
+        used-in = rw (m .used-is) k;
+      })
+
+  -- a call that was lent a part of the memory, and left `after` in it
+  record Fixes (room at′ : ℕ) (after : List ℕ) (e : Exchange) (h : History) : Type 0 where
+    answer : Answer
+    advanced : advance script (standing h) ≡ answered (standing h) room answer e at′
+    part-is : after ≡ over (answer .reply) (take room (drop used memory))
+    fits : length (answer .reply) ≤ length (take room (drop used memory))
+
+  lent-one : (e : Exchange) (room at′ : ℕ) (after : List ℕ) (r : Turn) → Made g e at′ (used + room) r → at′ ≤ length script → used + room ≤ length memory
+      → ((h : History) → Traces h g → Fixes room at′ after e h) → One script memory g at used r (take used memory ++ (after ++ drop room (drop used memory)))
+  lent-one e room at′ after r m h k f =
+      took-one e at′ (used + room) r _ m h k
+      (λ h t.
+      let x = f h t in
+      x .advanced ∙ ap (λ (l : List ℕ). record { history = e ∷ h; at = at′; used = used + room; memory = l }) (sym (rw (x .part-is) (put-back memory (x .answer .reply) used room k (x .fits)))))
+
   pub request-one : (to : To) (room len : ℕ) (after : List ℕ) (r : Turn) → at + 5 + len ≤ length script → callAt script at ≡ Request to room len
       → used + room ≤ length memory
       → Made g (asked to (take (at + 5 + len - (at + 5)) (drop (at + 5) script)) (take (used + room - used) (drop used memory)) (r .number) (r .len) after) (at + 5 + len) (used + room) r
       → One script memory g at used r (take used memory ++ (after ++ drop (used + room - used) (drop used memory)))
+  unfolding made
   request-one to room len after r h e fits m =
-      lent-one memory used room after (rw (part-is script (at + 5) len, part-is memory used room) at m) (request e fits) h fits
+      rw (add-sub-cancel-left used room)
+      (lent-one _ room (at + 5 + len) after r n h fits
+      (λ h t.
+      let f = asked-fixed to (n .follows h t) in
+      record {
+        answer = answerTo to h (length before) request;
+        advanced = advances script (standing h) (Request to room len) e fits ∙ sym (rw (f .0 .number, f .0 .len, f .0 .memory));
+        part-is = f .0 .memory;
+        fits = rw (f .0 .len) at (f .1);
+      }))
+    where
+      before : List ℕ
+      before = take room (drop used memory)
+
+      request : List ℕ
+      request = take len (drop (at + 5) script)
+
+      n : Made g (asked to request before (r .number) (r .len) after) (at + 5 + len) (used + room) r
+      n = rw (add-sub-cancel-left (at + 5) len, add-sub-cancel-left used room) at m
 
   pub line-one : (room : ℕ) (after : List ℕ) (r : Turn) → at + 3 ≤ length script → callAt script at ≡ Line room → used + room ≤ length memory
       → Made g (lined (take (used + room - used) (drop used memory)) (r .number) (r .len) after) (at + 3) (used + room) r
       → One script memory g at used r (take used memory ++ (after ++ drop (used + room - used) (drop used memory)))
-  line-one room after r h e fits m = lent-one memory used room after (rw (part-is memory used room) at m) (line e fits) h fits
+  unfolding made
+  line-one room after r h e fits m =
+      rw (add-sub-cancel-left used room)
+      (lent-one _ room (at + 3) after r n h fits
+      (λ h t.
+      let f = lined-fixed (n .follows h t) in
+      record {
+        answer = lineFor h (length before);
+        advanced = advances script (standing h) (Line room) e fits ∙ sym (rw (f .0 .number, f .0 .len, f .0 .memory));
+        part-is = f .0 .memory;
+        fits = rw (f .0 .len) at (f .1);
+      }))
+    where
+      before : List ℕ
+      before = take room (drop used memory)
+
+      n : Made g (lined before (r .number) (r .len) after) (at + 3) (used + room) r
+      n = rw (add-sub-cancel-left used room) at m
 
   pub setting-one : (b : Bench) (r : Turn) → at + 10 ≤ length script → callAt script at ≡ Setting b → used ≤ length memory
       → Made g (told b (r .number)) (at + 10) used r → One script memory g at used r memory
-  setting-one b r h e fits m = made-one m (setting e) h fits
+  unfolding made
+  setting-one b r h e fits m =
+      took-one (told b (r .number)) (at + 10) used r memory m h fits (λ h t. advances script (standing h) (Setting b) e (omega arith) ∙ sym (rw (told-fixed (m .follows h t))))
 
   pub offer-one : (p : Pressure) (r : Turn) → at + 6 ≤ length script → callAt script at ≡ Offer p → used ≤ length memory
       → Made g (offered p (r .number)) (at + 6) used r → One script memory g at used r memory
-  offer-one p r h e fits m = made-one m (offer e) h fits
+  unfolding made
+  offer-one p r h e fits m =
+      took-one (offered p (r .number)) (at + 6) used r memory m h fits (λ h t. advances script (standing h) (Offer p) e (omega arith) ∙ sym (rw (offered-fixed (m .follows h t))))
 
   -- no call was made: too little memory is left for it, or there is none
   pub no-room : (k : Call) (r : Turn) → callAt script at ≡ k → used ≤ length memory → length memory - used < roomOf k → r .more ≡ false
       → One script memory g at used r memory
-  no-room k r e h l more =
-      inl (record { none-made = more; memory-is = refl; why = no-memory (subst (λ (x : Call). length memory < used + roomOf x) (sym e) (omega arith)) })
+  no-room k r e h l more = inl (record { none-made = more; memory-is = refl; stands = λ h. stands script (standing h) k e (omega arith) })
 
-  pub none-left : (r : Turn) → callAt script at ≡ End → r .more ≡ false → One script memory g at used r memory
-  none-left r e more = inl (record { none-made = more; memory-is = refl; why = no-call e })
+  pub none-left : (r : Turn) → callAt script at ≡ End → used ≤ length memory → r .more ≡ false → One script memory g at used r memory
+  unfolding made
+  none-left r e fits more = inl (record { none-made = more; memory-is = refl; stands = λ h. advances script (standing h) End e (omega arith) })

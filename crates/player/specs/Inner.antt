@@ -7,7 +7,7 @@ use Prim.Native.Nat.{ℕ, _≤_}
 use lib.ListN.{length}
 use Rattle.sequence_facts.specs.Sequence as text
 use Rattle.opg_sequence_facts.specs.Sequence as opg
-use Rattle.player.specs.Played.{Exchange, History, texts, opgs, numberOf, lengthOf, Takes, Stuck}
+use Rattle.player.specs.Played.{Exchange, History, texts, opgs, numberOf, lengthOf, advance}
 use Rattle.player.specs.declared.Gauges.{Gauges}
 use Rattle.player.specs.declared.Turn.{Turn}
 
@@ -29,7 +29,8 @@ pub record Made (g : Gauges) (e : Exchange) (at used : ℕ) (r : Turn) : Type 0 
 pub record Took (script memory : List ℕ) (g : Gauges) (at used : ℕ) (r : Turn) (memory′ : List ℕ) : Type 0 where
   pub exchange : Exchange
   pub made : Made g exchange (r .at) (r .used) r
-  pub takes : Takes script memory at used exchange (r .at) (r .used) memory′
+  pub advances : (h : History) → Traces h g
+      → advance script (record { history = h; at = at; used = used; memory = memory }) ≡ record { history = exchange ∷ h; at = r .at; used = r .used; memory = memory′ }
   pub at-in : r .at ≤ length script
   pub used-in : r .used ≤ length memory
 
@@ -37,7 +38,8 @@ pub record Took (script memory : List ℕ) (g : Gauges) (at used : ℕ) (r : Tur
 pub record Still (script memory : List ℕ) (at used : ℕ) (r : Turn) (memory′ : List ℕ) : Type 0 where
   pub none-made : r .more ≡ false
   pub memory-is : memory′ ≡ memory
-  pub why : Stuck script memory at used
+  pub stands : (h : History)
+      → advance script (record { history = h; at = at; used = used; memory = memory }) ≡ record { history = h; at = at; used = used; memory = memory }
 
 -- one call was made, or none
 abbrev pub One : (script memory : List ℕ) (g : Gauges) (at used : ℕ) (r : Turn) (memory′ : List ℕ) → Type 0

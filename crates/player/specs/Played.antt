@@ -1,16 +1,27 @@
--- What playing a script promises: the calls that were made are the script's, and the claim on sequences holds of them, for both gauges.
--- Assumes nothing.
+-- What playing a script promises: the calls that were made are the script's, each answered as the rules fix it, and the claim on sequences holds
+-- of them, for both gauges. Assumes nothing.
 use mathlib.Core.Path.{_≡_}
 use mathlib.Core.List.{List, [], _∷_, _++_}
-use Prim.Native.Nat.{ℕ, _+_, _<_, _≤_}
+use Prim.Native.Nat.{ℕ, zero, suc, _+_, min}
+use lib.Dec.{ltb}
 use lib.ListN.{length, take, drop}
+use lib.Seq.{sets}
+use Rattle.buffer.specs.First.{_⇒_, first, pick}
+use Rattle.buffer.specs.Answer.{Answer, over}
+use Rattle.readings.specs.Bench.{benchOf, benchNumber}
 use Rattle.readings.specs.declared.Bench.{Bench}
+use Rattle.line.specs.Line.{lineAnswer}
+use Rattle.gauge_table.specs.After as text-answers
+use Rattle.opg_gauge.specs.State.{takes}
 use Rattle.opg_gauge.specs.declared.Pressure.{Pressure}
+use Rattle.opg_answer.specs.Reply as opg-answers
 use Rattle.sequence_facts.specs.Sequence as text
+use Rattle.opg_sequence_facts.specs.Model.{gaugeOf}
 use Rattle.opg_sequence_facts.specs.Sequence as opg
 use Rattle.script.specs.Script.{callAt, roomOf}
 use Rattle.script.specs.declared.To.{To}
 use Rattle.script.specs.declared.To.the-variants.{Text, Opg}
+use Rattle.script.specs.declared.Call.{Call}
 use Rattle.script.specs.declared.Call.the-variants.{Request, Line, Setting, Offer, End}
 use Rattle.player.specs.declared.Gauges.{Gauges}
 
@@ -57,69 +68,80 @@ lengthOf (lined before number len after) = len
 lengthOf (told b number) = 0
 lengthOf (offered p number) = 0
 
--- ---- the memory
-
--- the n elements from a place on
-abbrev pub part : ℕ → ℕ → List ℕ → List ℕ
-part from n s = take n (drop from s)
-
--- the memory with other bytes in the n places from a place on
-abbrev pub withPart : ℕ → ℕ → List ℕ → List ℕ → List ℕ
-withPart from n bytes memory = take from memory ++ bytes ++ drop (from + n) memory
-
--- ---- the calls of a script
-
--- The exchange is the call at place `at` of the script, lent the memory from `used` on. Then: where the next call begins, where the memory not yet
--- lent begins, and the memory.
-pub data Takes (script memory : List ℕ) (at used : ℕ) : Exchange → ℕ → ℕ → List ℕ → Type 0 where
-  request : {to : To} {room len n l : ℕ} {after : List ℕ} → callAt script at ≡ Request to room len → used + room ≤ length memory
-      → Takes script memory at used (asked to (part (at + 5) len script) (part used room memory) n l after) (at + 5 + len) (used + room)
-      (withPart used room after memory)
-  line : {room n l : ℕ} {after : List ℕ} → callAt script at ≡ Line room → used + room ≤ length memory
-      → Takes script memory at used (lined (part used room memory) n l after) (at + 3) (used + room) (withPart used room after memory)
-  setting : {b : Bench} {n : ℕ} → callAt script at ≡ Setting b → Takes script memory at used (told b n) (at + 10) used memory
-  offer : {p : Pressure} {n : ℕ} → callAt script at ≡ Offer p → Takes script memory at used (offered p n) (at + 6) used memory
-
--- A history is the script's calls from its front up to a place; the first one was lent the memory from its front on.
-pub data Plays (script memory : List ℕ) : History → ℕ → ℕ → List ℕ → Type 0 where
-  begin : Plays script memory [] 0 0 memory
-  then : {h : History} {e : Exchange} {at used at′ used′ : ℕ} {now after : List ℕ} → Plays script memory h at used now
-      → Takes script now at used e at′ used′ after → Plays script memory (e ∷ h) at′ used′ after
-
 -- what f gives for each exchange, in the order of the calls
 abbrev pub inOrder : {A : Type 0} → (Exchange → A) → History → List A
 inOrder f [] = []
 inOrder f (e ∷ h) = inOrder f h ++ f e ∷ []
 
--- ---- the play
+-- ---- the answers that the rules fix, from the reference models of the calls before
+
+abbrev pub answerTo : To → History → ℕ → List ℕ → Answer
+answerTo Text h room s = text-answers.answerOf (text.model (texts h)) room s
+answerTo Opg h room s = opg-answers.answerOf room (gaugeOf (opg.model (opgs h))) s
+
+abbrev pub lineFor : History → ℕ → Answer
+lineFor h room = lineAnswer room (text.model (texts h) .settings) (text.model (texts h) .readings)
+
+-- ---- the play of a script
+
+-- what stands after some calls: the history, where the next call begins, where the memory not yet lent begins, and the memory
+pub record Standing : Type 0 where
+  pub history : History
+  pub at : ℕ
+  pub used : ℕ
+  pub memory : List ℕ
+
+-- the next bytes of the memory, for one call
+abbrev pub lent : Standing → ℕ → List ℕ
+lent p room = take room (drop (p .used) (p .memory))
+
+-- a call with this answer was made with them, and its reply stands in the memory from there on. The next call begins at a place of the script
+abbrev pub answered : Standing → ℕ → Answer → Exchange → ℕ → Standing
+answered p room a e at = record { history = e ∷ p .history; at = at; used = p .used + room; memory = sets (p .memory) (p .used) (a .reply) }
+
+-- the call that stands next is made, and answered by the rules
+unfoldable pub made : List ℕ → Standing → Call → Standing
+made script p (Request to room len) =
+    let s = take len (drop (p .at + 5) script) in
+    let a = answerTo to (p .history) (length (lent p room)) s in
+    answered p room a (asked to s (lent p room) (a .number) (length (a .reply)) (over (a .reply) (lent p room))) (p .at + 5 + len)
+made script p (Line room) =
+    let a = lineFor (p .history) (length (lent p room)) in
+    answered p room a (lined (lent p room) (a .number) (length (a .reply)) (over (a .reply) (lent p room))) (p .at + 3)
+made script p (Setting b) = record { history = told b (benchNumber (benchOf b)) ∷ p .history; at = p .at + 10; used = p .used; memory = p .memory }
+made script p (Offer q) = record { history = offered q (pick (takes q) 20 15) ∷ p .history; at = p .at + 6; used = p .used; memory = p .memory }
+made script p End = p
+
+-- one call more, unless no whole call stands next, or the memory left is too small for it
+unfoldable pub advance : List ℕ → Standing → Standing
+advance script p =
+    let k = callAt script (p .at) in
+    first (ltb (length (p .memory)) (p .used + roomOf k) ⇒ p ∷ []) (made script p k)
+
+unfoldable pub playOf : ℕ → List ℕ → Standing → Standing
+playOf zero script p = p
+playOf (suc n) script p = advance script (playOf n script p)
+
+-- before the first call
+abbrev pub beginning : List ℕ → Standing
+beginning memory = record { history = []; at = 0; used = 0; memory = memory }
+
+-- ---- what the player promises
 
 -- the claim on sequences of calls, for each gauge and the calls that it had
 pub record Claims (h : History) (g : Gauges) : Type 0 where
   pub of-text-gauge : text.Claim (texts h) (g .text)
   pub of-opg-gauge : opg.Claim (opgs h) (g .opg)
 
--- why no call was made at place `at`: no whole call stands there, or the memory from `used` on is too small for it
-pub data Stuck (script memory : List ℕ) (at used : ℕ) : Type 0 where
-  no-call : callAt script at ≡ End → Stuck script memory at used
-  no-memory : length memory < used + roomOf (callAt script at) → Stuck script memory at used
+-- as many calls as there are places for their answers, as far as the script and the memory go
+abbrev pub ends : (script memory numbers lens : List ℕ) → Standing
+ends script memory numbers lens = playOf (min (length numbers) (length lens)) script (beginning memory)
 
--- why the play ended after so many calls: no call could be made, or there is no place for the answer's number, or for its length
-pub data Ended (script memory numbers lens : List ℕ) (calls at used : ℕ) : Type 0 where
-  stuck : Stuck script memory at used → Ended script memory numbers lens calls at used
-  no-number : length numbers ≤ calls → Ended script memory numbers lens calls at used
-  no-length : length lens ≤ calls → Ended script memory numbers lens calls at used
-
--- What a play promises. There is a history: its calls are the script's, each lent the next part of the memory, up to where the play ended; the memory
--- is what they left; the numbers and lengths of their answers stand in order at the front of `numbers` and `lens`, which are otherwise as they were;
--- and the claim on sequences holds of this history and the gauges.
+-- The memory is what these calls left; the numbers and lengths of their answers stand in order at the front of `numbers` and `lens`, which are
+-- otherwise as they were; and the claim on sequences holds of these calls and the gauges.
 pub record Ran (script memory numbers lens : List ℕ) (gauges : Gauges) (calls : ℕ) (memory′ numbers′ lens′ : List ℕ) : Type 0 where
-  pub history : History
-  pub at : ℕ
-  pub used : ℕ
-  pub plays : Plays script memory history at used memory′
-  pub memory-long : length memory′ ≡ length memory
-  pub calls-are : calls ≡ length history
-  pub numbers-are : numbers′ ≡ inOrder numberOf history ++ drop calls numbers
-  pub lengths-are : lens′ ≡ inOrder lengthOf history ++ drop calls lens
-  pub claims : Claims history gauges
-  pub ended : Ended script memory′ numbers lens calls at used
+  pub calls-are : calls ≡ length (ends script memory numbers lens .history)
+  pub memory-is : memory′ ≡ ends script memory numbers lens .memory
+  pub numbers-are : numbers′ ≡ inOrder numberOf (ends script memory numbers lens .history) ++ drop calls numbers
+  pub lengths-are : lens′ ≡ inOrder lengthOf (ends script memory numbers lens .history) ++ drop calls lens
+  pub claims : Claims (ends script memory numbers lens .history) gauges

@@ -2,13 +2,13 @@
 use mathlib.Core.Path.{_≡_, refl, sym, ap, ap₂, subst, _∙_}
 use mathlib.Core.Bool.{Bool, true, false, cond, not}
 use mathlib.Core.List.{List, [], _∷_, _++_, append-nil}
-use Prim.Native.Nat.{ℕ, _+_, _-_, _<_, _≤_}
+use Prim.Native.Nat.{ℕ, zero, suc, _+_, _-_, _<_, _≤_, min}
 use native.Mathlib.Nat.{zero-add}
 use native.Mathlib.Omega.{arith}
-use borrow.Author.Tests.{le-ltb, eq-eqb}
+use borrow.Author.Tests.{le-ltb}
 use lib.Dec.{eqb}
-use lib.ListN.{length, drop, length-append, length-take, length-drop}
-use lib.Seq.{drop-drop, take-append-seam, drop-append-seam, append-snoc}
+use lib.ListN.{length, take, drop, length-append, length-take, length-drop}
+use lib.Seq.{drop-drop, take-append-seam, drop-append-seam, append-snoc, length-sets}
 use Rattle.buffer.specs.First.{_⇒_, first, pick}
 use Rattle.buffer.specs.Byte.{at}
 use Rattle.decimal.specs.declared.Exact.{Exact}
@@ -22,10 +22,9 @@ use Rattle.script.specs.declared.To.{To}
 use Rattle.script.specs.declared.To.the-variants.{Text, Opg}
 use Rattle.script.specs.declared.Call.{Call}
 use Rattle.script.specs.declared.Call.the-variants.{Request, Line, Setting, Offer, End}
-use Rattle.player.specs.Played as played
-use Rattle.player.specs.Played.{Exchange, History, part, Takes, Plays, inOrder, Ended, stuck, no-call, no-memory, no-number, no-length, Ran}
+use Rattle.player.specs.Played.{inOrder, answerTo, lineFor, Standing, made, advance, playOf, beginning, ends}
+use Rattle.player.specs.Advance.{advances}
 use Rattle.player.specs.Encoded.{Fed, request, line, bench, pressure, fed, lentTo, kindOf, benchBytes, pressureBytes, bytesOf, scriptOf, lentToAll, Every, Bytes, Sendable}
-use Rattle.player.specs.declared.Gauges.{Gauges}
 
 -- ---- a script is bytes
 
@@ -122,13 +121,6 @@ front (bench (Status v)) rest = read-setting _ 4 (omega arith) refl refl
 front (pressure (Bits w)) rest = read-offer _ 0 (omega arith) refl refl ∙ ap (λ (n : ℕ). Offer (Bits n)) (word-is w)
 front (pressure Unavailable) rest = read-offer _ 1 (omega arith) refl refl
 
-abbrev isCall : Call → Type 0
-isCall (Request to room len) = Unit {0}
-isCall (Line room) = Unit {0}
-isCall (Setting b) = Unit {0}
-isCall (Offer p) = Unit {0}
-isCall End = ⊥
-
 room-is : (f : Fed) → roomOf (callFor f) ≡ lentTo f
 room-is (request to s lent) = refl
 room-is (line lent) = refl
@@ -143,13 +135,13 @@ further script a rest at n d e = sym (drop-drop n at script) ∙ rw (d, e) (drop
 
 -- a request that was written: its bytes stand behind its head, and what follows behind them
 request-read : (script s rest : List ℕ) (at kind lent len : ℕ) → drop at script ≡ (kind ∷ pairBytes lent ++ pairBytes (length s)) ++ (s ++ rest) → len ≡ length s
-    → (part (at + 5) len script ≡ s) × (drop (at + 5 + len) script ≡ rest)
+    → (take len (drop (at + 5) script) ≡ s) × (drop (at + 5 + len) script ≡ rest)
 request-read script s rest at kind lent len d e =
     let tail : drop (at + 5) script ≡ s ++ rest = further script (kind ∷ pairBytes lent ++ pairBytes (length s)) (s ++ rest) at 5 d refl in
     (rw (tail, e) (take-append-seam s rest), further script s rest (at + 5) len tail e)
 
 -- a part of the memory has the length that was asked for
-part-long : (memory : List ℕ) (used room : ℕ) → used + room ≤ length memory → length (part used room memory) ≡ room
+part-long : (memory : List ℕ) (used room : ℕ) → used + room ≤ length memory → length (take room (drop used memory)) ≡ room
 part-long memory used room h = simp (length-take, length-drop) (omega arith)
 
 ten : (b : Bench) → 10 ≡ length (bytesOf (bench b))
@@ -165,107 +157,87 @@ unfolding bytesOf pressureBytes
 six (Bits w) = refl
 six Unavailable = refl
 
--- what making the call at place `at` does: the call made, the memory there was for it, and where the next call and the memory not yet lent begin
-module _ (script now : List ℕ) (at used : ℕ) where
-  abbrev Goes : Call → Exchange → ℕ → ℕ → Type 0
-  Goes (Request to room len) e at′ used′ =
-      (fed e ≡ request to (part (at + 5) len script) (length (part used room now))) × (used + room ≤ length now) × (at′ ≡ at + 5 + len) × (used′ ≡ used + room)
-  Goes (Line room) e at′ used′ = (fed e ≡ line (length (part used room now))) × (used + room ≤ length now) × (at′ ≡ at + 3) × (used′ ≡ used + room)
-  Goes (Setting b) e at′ used′ = (fed e ≡ bench b) × (at′ ≡ at + 10) × (used′ ≡ used)
-  Goes (Offer p) e at′ used′ = (fed e ≡ pressure p) × (at′ ≡ at + 6) × (used′ ≡ used)
-  Goes End e at′ used′ = ⊥
+-- the call f stood next and was made: p was before it, q is after it, and the rest of the script is left
+record Next (script : List ℕ) (f : Fed) (rest : List ℕ) (p q : Standing) : Type 0 where
+  order : inOrder fed (q .history) ≡ inOrder fed (p .history) ++ f ∷ []
+  rest-is : drop (q .at) script ≡ rest
+  used-is : q .used ≡ p .used + lentTo f
+  long : length (q .memory) ≡ length (p .memory)
 
-  goes : {e : Exchange} {at′ used′ : ℕ} {after : List ℕ} → Takes script now at used e at′ used′ after → Goes (callAt script at) e at′ used′
-  goes (played.request c fits) = rw c (refl, fits, refl, refl)
-  goes (played.line c fits) = rw c (refl, fits, refl, refl)
-  goes (played.setting c) = rw c (refl, refl, refl)
-  goes (played.offer c) = rw c (refl, refl, refl)
-
-  -- the call f that stands first in what is left of the script was made, and what follows it is left
-  record Next (f : Fed) (rest : List ℕ) (e : Exchange) (at′ used′ : ℕ) : Type 0 where
-    fed-is : fed e ≡ f
-    rest-is : drop at′ script ≡ rest
-    used-is : used′ ≡ used + lentTo f
-
-  next : {e : Exchange} {at′ used′ : ℕ} (f : Fed) (rest : List ℕ) → drop at script ≡ bytesOf f ++ rest → Goes (callFor f) e at′ used′ → Next f rest e at′ used′
-  unfolding bytesOf
-  next (request to s lent) rest d (made, fits, there, lent-is) =
-      let b = request-read script s rest at (kindOf to) lent (length s) d refl in
-      record { fed-is = made ∙ ap₂ (request to) (b .0) (part-long now used lent fits); rest-is = rw there (b .1); used-is = lent-is }
-  next (line lent) rest d (made, fits, there, lent-is) =
-      record { fed-is = made ∙ ap line (part-long now used lent fits); rest-is = rw there (further script (1 ∷ pairBytes lent) rest at 3 d refl); used-is = lent-is }
-  next (bench b) rest d (made, there, lent-is) =
-      record { fed-is = made; rest-is = rw there (further script (bytesOf (bench b)) rest at 10 d (ten b)); used-is = omega arith }
-  next (pressure p) rest d (made, there, lent-is) =
-      record { fed-is = made; rest-is = rw there (further script (bytesOf (pressure p)) rest at 6 d (six p)); used-is = omega arith }
+next : (script : List ℕ) (p : Standing) (f : Fed) (rest : List ℕ) → drop (p .at) script ≡ bytesOf f ++ rest → p .used + lentTo f ≤ length (p .memory)
+    → Next script f rest p (made script p (callFor f))
+unfolding bytesOf made
+next script p (request to s lent) rest d fits =
+    let b = request-read script s rest (p .at) (kindOf to) lent (length s) d refl in
+    record {
+      order = ap₂ (λ (s : List ℕ) (n : ℕ). inOrder fed (p .history) ++ request to s n ∷ []) (b .0) (part-long (p .memory) (p .used) lent fits);
+      rest-is = b .1;
+      used-is = refl;
+      long = length-sets (p .memory) (p .used) (answerTo to (p .history) (length (take lent (drop (p .used) (p .memory)))) (take (length s) (drop (p .at + 5) script)) .reply);
+    }
+next script p (line lent) rest d fits =
+    record {
+      order = ap (λ (n : ℕ). inOrder fed (p .history) ++ line n ∷ []) (part-long (p .memory) (p .used) lent fits);
+      rest-is = further script (1 ∷ pairBytes lent) rest (p .at) 3 d refl;
+      used-is = refl;
+      long = length-sets (p .memory) (p .used) (lineFor (p .history) (length (take lent (drop (p .used) (p .memory)))) .reply);
+    }
+next script p (bench b) rest d fits =
+    record { order = refl; rest-is = further script (bytesOf (bench b)) rest (p .at) 10 d (ten b); used-is = omega arith; long = refl }
+next script p (pressure q) rest d fits =
+    record { order = refl; rest-is = further script (bytesOf (pressure q)) rest (p .at) 6 d (six q); used-is = omega arith; long = refl }
 
 -- ---- the play
 
--- the calls made are the first of the sequence; these are left
-record Walk (fs : List Fed) (script : List ℕ) (h : History) (at used : ℕ) : Type 0 where
+-- after n calls of the script of fs: the first of the sequence were made, and these are left
+record Walk (fs : List Fed) (memory : List ℕ) (n : ℕ) (p : Standing) : Type 0 where
   left : List Fed
-  order : inOrder fed h ++ left ≡ fs
-  rest : drop at script ≡ scriptOf left
-  lent : used + lentToAll left ≡ lentToAll fs
-  count : length h + length left ≡ length fs
+  order : inOrder fed (p .history) ++ left ≡ fs
+  rest : drop (p .at) (scriptOf fs) ≡ scriptOf left
+  lent : p .used + lentToAll left ≡ lentToAll fs
+  long : length (p .memory) ≡ length memory
+  count : length left ≡ length fs - n
 
 -- no call stands at the end
-no-call-left : callOf [] ≡ End
+none-there : callOf [] ≡ End
 unfolding callOf pick
-no-call-left = refl
+none-there = refl
 
-step : {fs : List Fed} {script now : List ℕ} {h : History} {at used : ℕ} {e : Exchange} {at′ used′ : ℕ} {after : List ℕ} (left : List Fed)
-    → inOrder fed h ++ left ≡ fs → drop at script ≡ scriptOf left → used + lentToAll left ≡ lentToAll fs → length h + length left ≡ length fs
-    → Takes script now at used e at′ used′ after → Walk fs script (e ∷ h) at′ used′
-unfolding scriptOf lentToAll
-step {script = script} {now = now} {at = at} {used = used} {e = e} {at′ = at′} {used′ = used′} [] o r l c t =
-    absurd (subst (λ (k : Call). Goes script now at used k e at′ used′) (ap callOf r ∙ no-call-left) (goes script now at used t))
-step {script = script} {now = now} {h = h} {at = at} {used = used} {e = e} {at′ = at′} {used′ = used′} (f ∷ left) o r l c t =
-    let g = subst (λ (k : Call). Goes script now at used k e at′ used′) (ap callOf r ∙ front f (scriptOf left)) (goes script now at used t) in
-    let n = next script now at used f (scriptOf left) r g in
-    record {
+step : (fs : List Fed) (memory : List ℕ) (n : ℕ) (p : Standing) → lentToAll fs ≤ length memory → (left : List Fed) → inOrder fed (p .history) ++ left ≡ fs
+    → drop (p .at) (scriptOf fs) ≡ scriptOf left → p .used + lentToAll left ≡ lentToAll fs → length (p .memory) ≡ length memory → length left ≡ length fs - n
+    → Walk fs memory (suc n) (advance (scriptOf fs) p)
+unfolding scriptOf lentToAll made
+step fs memory n p room [] o r l m c =
+    rw (advances (scriptOf fs) p End (ap callOf r ∙ none-there) (omega arith)) (record { left = []; order = o; rest = r; lent = l; long = m; count = omega arith })
+step fs memory n p room (f ∷ left) o r l m c =
+    let k : callAt (scriptOf fs) (p .at) ≡ callFor f = ap callOf r ∙ front f (scriptOf left) in
+    let fits : p .used + lentTo f ≤ length (p .memory) = omega arith in
+    let x = next (scriptOf fs) p f (scriptOf left) r fits in
+    rw (advances (scriptOf fs) p (callFor f) k (subst (λ (n : ℕ). p .used + n ≤ length (p .memory)) (sym (room-is f)) fits))
+    (record {
       left = left;
-      order = append-snoc (inOrder fed h) _ left ∙ ap (λ x. inOrder fed h ++ x ∷ left) (n .fed-is) ∙ o;
-      rest = n .rest-is;
-      lent = omega (arith, n .used-is);
+      order = ap (λ (h : List Fed). h ++ left) (x .order) ∙ append-snoc (inOrder fed (p .history)) f left ∙ o;
+      rest = x .rest-is;
+      lent = omega (arith, x .used-is);
+      long = x .long ∙ m;
       count = omega arith;
-    }
+    })
 
-walk : (fs : List Fed) {memory : List ℕ} {h : History} {at used : ℕ} {now : List ℕ} → Plays (scriptOf fs) memory h at used now → Walk fs (scriptOf fs) h at used
-walk fs played.begin = record { left = fs; order = refl; rest = refl; lent = zero-add (lentToAll fs); count = zero-add (length fs) }
-walk fs (played.then p t) =
-    let w = walk fs p in
-    step (w .left) (w .order) (w .rest) (w .lent) (w .count) t
-
--- a call that is left could be made
-unended : {script memory numbers lens : List ℕ} {calls at used : ℕ} (f : Fed) (left : List Fed) (total count : ℕ) → drop at script ≡ scriptOf (f ∷ left)
-    → used + lentToAll (f ∷ left) ≡ total → calls + length (f ∷ left) ≡ count → total ≤ length memory → count ≤ length numbers → count ≤ length lens
-    → Ended script memory numbers lens calls at used → ⊥
-unfolding scriptOf lentToAll
-unended f left total count r l c m n o (stuck (no-call e)) = is-call f (sym (ap callOf r ∙ front f (scriptOf left)) ∙ e)
-  where
-    is-call : (f : Fed) → callFor f ≡ End → ⊥
-    is-call (request to s lent) e = subst isCall e tt
-    is-call (line lent) e = subst isCall e tt
-    is-call (bench b) e = subst isCall e tt
-    is-call (pressure p) e = subst isCall e tt
-unended {script} {memory} {at = at} {used = used} f left total count r l c m n o (stuck (no-memory e)) =
-    let room : roomOf (callAt script at) ≡ lentTo f = ap roomOf (ap callOf r ∙ front f (scriptOf left)) ∙ room-is f in
-    let small : length memory < used + lentTo f = subst (λ (k : ℕ). length memory < used + k) room e in
-    omega arith
-unended f left total count r l c m n o (no-number e) = omega arith
-unended f left total count r l c m n o (no-length e) = omega arith
+walk : (fs : List Fed) (memory : List ℕ) → lentToAll fs ≤ length memory → (n : ℕ) → Walk fs memory n (playOf n (scriptOf fs) (beginning memory))
+unfolding playOf
+walk fs memory room zero = record { left = fs; order = refl; rest = refl; lent = zero-add (lentToAll fs); long = refl; count = omega arith }
+walk fs memory room (suc n) =
+    let w = walk fs memory room n in
+    step fs memory n (playOf n (scriptOf fs) (beginning memory)) room (w .left) (w .order) (w .rest) (w .lent) (w .long) (w .count)
 
 -- THE THEOREM: with memory for all of them and places for their answers, the calls made are the sequence
-pub plays-all : (fs : List Fed) {memory numbers lens : List ℕ} {g : Gauges} {calls : ℕ} {memory′ numbers′ lens′ : List ℕ}
-    (ran : Ran (scriptOf fs) memory numbers lens g calls memory′ numbers′ lens′)
-    → lentToAll fs ≤ length memory → length fs ≤ length numbers → length fs ≤ length lens → inOrder fed (ran .history) ≡ fs
-plays-all fs {memory} ran m n o =
-    let w = walk fs (ran .plays) in
-    go (w .left) (w .order) (w .rest) (w .lent) (w .count)
+pub plays-all : (fs : List Fed) (memory numbers lens : List ℕ) → lentToAll fs ≤ length memory → length fs ≤ length numbers → length fs ≤ length lens
+    → inOrder fed (ends (scriptOf fs) memory numbers lens .history) ≡ fs
+plays-all fs memory numbers lens room n l =
+    let w = walk fs memory room (min (length numbers) (length lens)) in
+    go (w .left) (w .order) (w .count)
   where
-    go : (left : List Fed) → inOrder fed (ran .history) ++ left ≡ fs → drop (ran .at) (scriptOf fs) ≡ scriptOf left
-        → ran .used + lentToAll left ≡ lentToAll fs → length (ran .history) + length left ≡ length fs → inOrder fed (ran .history) ≡ fs
-    go [] order rest lent count = sym (append-nil (inOrder fed (ran .history))) ∙ order
-    go (f ∷ left) order rest lent count =
-        absurd (unended f left (lentToAll fs) (length fs) rest lent (ap (λ (k : ℕ). k + length (f ∷ left)) (ran .calls-are) ∙ count) (subst (λ (k : ℕ). lentToAll fs ≤ k) (sym (ran .memory-long)) m) n o (ran .ended))
+    go : (left : List Fed) → inOrder fed (ends (scriptOf fs) memory numbers lens .history) ++ left ≡ fs → length left ≡ length fs - min (length numbers) (length lens)
+        → inOrder fed (ends (scriptOf fs) memory numbers lens .history) ≡ fs
+    go [] order count = sym (append-nil (inOrder fed (ends (scriptOf fs) memory numbers lens .history))) ∙ order
+    go (f ∷ left) order count = absurd (omega arith)

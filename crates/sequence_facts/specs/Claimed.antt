@@ -1,12 +1,12 @@
 -- The claim holds of every sequence of calls from factory settings. Assumes nothing.
 use mathlib.Core.Path.{_≡_, refl, ap, subst, _∙_}
 use mathlib.Core.Bool.{Bool, true, false, cond, not, _&&_}
-use mathlib.Core.List.{List, [], _∷_, map}
-use mathlib.Core.Option.{Option, none, some}
-use Prim.Native.Nat.{ℕ, suc, _≤_}
+use mathlib.Core.List.{List}
+use mathlib.Core.Option.{none, some}
+use Prim.Native.Nat.{ℕ, _≤_}
 use native.Mathlib.Omega.{arith}
 use borrow.Author.Tests.{le-ltb, not-false}
-use lib.Dec.{eqb, ltb}
+use lib.Dec.{eqb}
 use lib.ListN.{length, length-map}
 use Rattle.buffer.specs.First.{pick}
 use Rattle.buffer.specs.Byte.{at, within}
@@ -14,25 +14,22 @@ use Rattle.buffer.specs.Answer.{Answer, Sent}
 use Rattle.buffer.specs.declared.Written.{Written}
 use Rattle.buffer.proofs.Laws.{within-true}
 use Rattle.frames.specs.Frame.{dataFrom, headV2}
-use Rattle.decimal.specs.Number.{belowOf}
 use Rattle.sources.specs.Source.{mostEntries}
-use Rattle.settings.specs.Limits.{standard, longestLine, longest-is}
+use Rattle.settings.specs.Limits.{standard, longest-is}
 use Rattle.settings.specs.Settings.{Held, held, factory}
 use Rattle.settings.specs.declared.Key.{Key}
-use Rattle.readings.specs.Reading.{start, putReading}
+use Rattle.readings.specs.Reading.{start}
 use Rattle.readings.specs.Bench.{benchOf, benchNumber}
 use Rattle.readings.specs.declared.Readings.{Readings}
-use Rattle.readings.specs.declared.Bench.{Bench}
 use Rattle.readings.specs.declared.Benched.{Benched}
 use Rattle.readings.specs.declared.Benched.the-variants as bench
 use Rattle.readings_facts.specs.Place.{Place, readingAt}
-use Rattle.readings_facts.specs.Sound.{Machine}
 use Rattle.requests.specs.AskV2.{askList}
 use Rattle.requests.specs.declared.RequestV1.the-variants.{Measure, ReadFactor, Unlock, SetFactor, ReadUnit, SetUnit}
 use Rattle.requests.specs.declared.AskV1.{AskV1}
 use Rattle.requests.specs.declared.AskV1.the-variants.{Asks, Denied}
 use Rattle.line.specs.Line.{valuesOf, lineAnswer}
-use Rattle.gauge_rules.specs.State.{State, stateOf, fresh}
+use Rattle.gauge_rules.specs.State.{State, stateOf}
 use Rattle.gauge_rules.specs.declared.Gauge.{Gauge}
 use Rattle.gauge_rules_v1.specs.RulesV1.{factorNumber, grantV1}
 use Rattle.gauge_table.specs.Asked.{isV1, askedV2, askedV1}
@@ -40,7 +37,6 @@ use Rattle.gauge_table.specs.Table.{numberOf}
 use Rattle.gauge_table.specs.DecidedV2.{by}
 use Rattle.gauge_table.specs.DecidedV1.{decidedV1}
 use Rattle.gauge_table.specs.After.{answerOf, asksUnlock, afterwards, nextOf, benched}
-use Rattle.gauge.specs.Answer.{Answers, Benches}
 use Rattle.gauge_facts.specs.Kept.{SoundState, fresh-sound, next-sound, bench-sound, lower-below, decided}
 use Rattle.gauge_facts.specs.Refused.{readings-stay}
 use Rattle.gauge_facts.specs.Lemmas.Rows.{past-row}
@@ -48,7 +44,7 @@ use Rattle.gauge_facts.specs.Lengths.{within-lent}
 use Rattle.gauge_facts.specs.Line.{line-fits, line-within-lent}
 use Rattle.history.specs.Latest.{orElse, latest, follows}
 use Rattle.sequence_facts.specs.Model.{step, modelOf}
-use Rattle.sequence_facts.specs.Sequence.{Exchange, asked, set, lined, History, fed, model, Trace, begin, ask, tell, show, AllFixed, Claim, holding, writes, forKey, saysSetting, forPlace, saysReading, isUnlock, saysUnlock}
+use Rattle.sequence_facts.specs.Sequence.{asked, set, lined, History, model, Trace, begin, ask, tell, show, AllFixed, Claim, holding, writes, forKey, saysSetting, forPlace, saysReading, isUnlock, saysUnlock}
 use Rattle.sequence_facts.specs.Lemmas.Settings.{v2-says, v1-says, FactorIn}
 use Rattle.sequence_facts.specs.Lemmas.Readings.{reading-says}
 use Rattle.sequence_facts.specs.Lemmas.Unlock.{unlock-is}

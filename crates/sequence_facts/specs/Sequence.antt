@@ -13,7 +13,6 @@ use Rattle.buffer.specs.declared.Written.{Written}
 use Rattle.frames.specs.Frame.{dataFrom, headV2}
 use Rattle.decimal.specs.Number.{belowOf}
 use Rattle.decimal.specs.declared.Number.{Number}
-use Rattle.settings.specs.Limits.{standard, longestLine}
 use Rattle.settings.specs.Settings.{Held, held, keyOf, factory, factoryOf}
 use Rattle.settings.specs.declared.Transition.the-variants.{Between}
 use Rattle.settings.specs.declared.Key.{Key}
@@ -30,9 +29,7 @@ use Rattle.readings_facts.specs.Sound.{Machine}
 use Rattle.readings_facts.specs.Place.{Place, Source0, Source1, Source2, Source6, Source7, SourceT2, SourceT6, Status, placeOf, readingAt}
 use Rattle.requests.specs.AskV2.{askList}
 use Rattle.requests.specs.declared.Command.the-variants.{MV, T2, FN, FS, Of}
-use Rattle.requests.specs.declared.RequestV2.{RequestV2}
 use Rattle.requests.specs.declared.RequestV2.the-variants.{Read, Restore, Set}
-use Rattle.requests.specs.declared.RequestV1.{RequestV1}
 use Rattle.requests.specs.declared.RequestV1.the-variants.{Measure, ReadFactor, Unlock, SetFactor, ReadUnit, SetUnit}
 use Rattle.requests.specs.declared.AskV2.{AskV2}
 use Rattle.requests.specs.declared.AskV2.the-variants.{For, Refused}

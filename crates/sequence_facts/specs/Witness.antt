@@ -1,6 +1,6 @@
 -- The claim is about something: every sequence of calls can be had, and one of them reaches the longest line. Assumes nothing.
 use mathlib.Core.Path.{_≡_, refl, sym, ap, subst, _∙_}
-use mathlib.Core.Bool.{Bool, true, false}
+use mathlib.Core.Bool.{true, false}
 use mathlib.Core.List.{List, [], _∷_, _++_, map}
 use Prim.Native.Nat.{ℕ, _≤_}
 use native.Mathlib.Omega.{arith}
@@ -18,11 +18,11 @@ use Rattle.decimal.specs.Form.{numberOf, answerOf, scanOf, unsignedOf, fraction
 use Rattle.decimal.specs.Number.{plus, minus, belowOf, countedOf, hundredthsOf}
 use Rattle.decimal_text.specs.Written.{writtenOf, signText, trimmed, pointed, exponentText, wholeText, twoDecimals}
 use Rattle.sources.specs.Entries.{onto, parts, sourceTexts, entriesOf, opens, entriesNumber, entriesList}
-use Rattle.sources.specs.Source.{sourceText, isSource, findSource, sourceOf, listText}
+use Rattle.sources.specs.Source.{sourceText, isSource, findSource, sourceOf, listText, mostEntries, listOf}
 use Rattle.settings.specs.Limits.{widthOf, widest, longestLine}
 use Rattle.settings.specs.Sent.{unitText, transitionText, streamText, readText}
 use Rattle.settings.specs.Settings.{factoryOf, putOf, restoreOf}
-use Rattle.readings.specs.Bench.{takes, pressureAt, temperatureAt, pressureOf, degreesOf, temperatureOf, benchOf}
+use Rattle.readings.specs.Bench.{takes, pressureAt, temperatureAt, pressureOf, degreesOf, temperatureOf, benchOf, benchNumber}
 use Rattle.readings.specs.Measure.{sixOf, roundedText, measureText}
 use Rattle.readings.specs.Reading.{putReading, pressureText, temperatureText, valueText, isFaulty, isFailed}
 use Rattle.forms.specs.Forms.{addressData, unitData, factorIn, factorOf, digitData, digitOf, limitedOf, directOf, betweenOf, endsOf, transitionOf, transitionData, idleList, knownMode, streamOf, streamData}
@@ -40,10 +40,7 @@ use Rattle.gauge_table.specs.Reply.{acceptedV2, acceptedV1, replyOf}
 use Rattle.gauge_table.specs.Table.{numberOf as tableNumber}
 use Rattle.buffer.specs.Answer.{Answer, over, Sent}
 use Rattle.buffer.specs.declared.Written.{Written}
-use Rattle.sources.specs.Source.{mostEntries, listOf}
 use Rattle.sources.specs.declared.Sources.{Sources}
-use Rattle.settings.specs.Settings.{Held, held}
-use Rattle.readings.specs.Bench.{benchNumber}
 use Rattle.readings.specs.declared.Bench.{Bench}
 use Rattle.readings.specs.declared.Bench.the-variants.{Reads}
 use Rattle.readings_facts.specs.Sound.{Machine}

@@ -92,7 +92,7 @@ returns-6 c =
 returns-7 : tie.Need-returns-7
 returns-7 c =
     let x = c .before .before .before .before .before .before .args in
-    none-left (x .script .now) (x .memory .now) (x .g) (x .at) (x .used) _ (sym (c .before .before .before .call-at .ensures .0) ∙ c .before .enum-told .given .1) (c .stop3 .ensures)
+    none-left (x .script .now) (x .memory .now) (x .g) (x .at) (x .used) _ (sym (c .before .before .before .call-at .ensures .0) ∙ c .before .enum-told .given .1) (omega arith) (c .stop3 .ensures)
 
 pub one-spec : {M : Type 1} → statement M
 one-spec =

@@ -4,8 +4,7 @@ use Prim.Native.Nat.{_-_, _<_}
 use native.Mathlib.Omega.{arith}
 use borrow.Author.Needs.{needs, scaled-fits}
 use lib.ListN.{length}
-use Rattle.player.specs.Played.{no-number, no-length}
-use Rattle.player.proofs.Sofar.{Sofar, first, next, done, ends}
+use Rattle.player.proofs.Sofar.{Sofar, first, next, full, stops}
 use Rattle.player.proofs.play.Statement.{statement}
 use Rattle.player.proofs.play.Tie as tie
 
@@ -48,12 +47,12 @@ play-spec =
     (λ c. c .before .before .loop .inv .memory-long)
     (λ c. c .before .before .loop .inv .numbers-long)
     (λ c. c .before .before .loop .inv .lens-long)
-    (λ c. done (c .before .before .loop .inv) (no-length (omega (arith, c .if1 .taken, c .before .before .loop .inv .lens-long))))
+    (λ c. full (c .before .before .loop .inv) (omega (arith, c .if1 .taken, c .before .before .loop .inv .lens-long)))
     (λ c κs. (c .before .before .before .loop .inv .at-in, c .before .before .before .loop .inv .used-in))
     (λ c. c .before .before .before .before .one .kept .1 .1 .1 .0 ∙ c .before .before .before .before .before .before .before .before .loop .inv .memory-long)
     (λ c. c .before .before .before .before .before .before .before .before .loop .inv .numbers-long)
     (λ c. c .before .before .before .before .before .before .before .before .loop .inv .lens-long)
-    (λ c. ends (c .if2 .taken) (c .before .before .before .before .before .before .before .before .loop .inv) (c .before .before .before .before .one .ensures))
+    (λ c. stops (c .if2 .taken) (c .before .before .before .before .before .before .before .before .loop .inv) (c .before .before .before .before .one .ensures))
     mul-numbers
     (λ c. omega arith)
     mul-lens
@@ -64,4 +63,4 @@ play-spec =
     (λ c. c .before .loop .inv .memory-long)
     (λ c. c .before .loop .inv .numbers-long)
     (λ c. c .before .loop .inv .lens-long)
-    (λ c. done (c .before .loop .inv) (no-number (omega (arith, c .before .loop .inv .numbers-long)))))
+    (λ c. full (c .before .loop .inv) (omega (arith, c .before .loop .inv .numbers-long))))

@@ -1,6 +1,5 @@
 -- What the bench sets is what it says of each reading. Assumes nothing.
 use mathlib.Core.Path.{_≡_, refl}
-use mathlib.Core.Option.{none, some}
 use Rattle.buffer.specs.First.{pick}
 use Rattle.readings.specs.Reading.{putReading}
 use Rattle.readings.specs.declared.Reading.{Reading}

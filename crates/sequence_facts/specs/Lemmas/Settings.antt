@@ -1,12 +1,12 @@
 -- What a request enters is what it says of each setting. Assumes nothing.
-use mathlib.Core.Path.{_≡_, refl, _∙_}
-use mathlib.Core.Bool.{Bool, true, false, cond}
+use mathlib.Core.Path.{_≡_, refl}
+use mathlib.Core.Bool.{false}
 use mathlib.Core.List.{List, []}
-use mathlib.Core.Option.{Option, none, some}
+use mathlib.Core.Option.{some}
 use Prim.Native.Nat.{ℕ}
-use lib.Dec.{eqb, ltb}
+use lib.Dec.{ltb}
 use Rattle.buffer.specs.First.{pick}
-use Rattle.settings.specs.Settings.{Held, keyOf, factoryOf, putOf, restoreOf}
+use Rattle.settings.specs.Settings.{Held, factoryOf, putOf, restoreOf}
 use Rattle.settings.specs.declared.Key.{Key}
 use Rattle.settings.specs.declared.Key.the-variants.{DA, DU, C1, CM, CC, FC, ST, SM}
 use Rattle.settings.specs.declared.Setting.{Setting}

@@ -1,14 +1,14 @@
 -- The bytes of an unlock are those that the rules take for one. Assumes nothing.
-use mathlib.Core.Path.{_≡_, refl, sym, ap, _∙_}
+use mathlib.Core.Path.{_≡_, refl, sym, _∙_}
 use mathlib.Core.Bool.{Bool, true, false, not, _&&_, true≢false, and-eq-true-iff}
 use mathlib.Core.List.{List, [], _∷_}
-use Prim.Native.Nat.{ℕ, _-_, _≤_}
+use Prim.Native.Nat.{ℕ, _-_}
 use native.Mathlib.Omega.{arith}
 use borrow.Author.Tests.{eq-eqb, ne-eqb, eqb-true, eqb-false, ltb-true, not-true, not-false}
 use lib.Dec.{eqb, ltb}
 use lib.ListN.{length, take}
 use Rattle.buffer.specs.First.{pick}
-use Rattle.buffer.specs.Byte.{at, within, isDigit, every, sameText, numeral}
+use Rattle.buffer.specs.Byte.{isDigit, every, sameText, numeral}
 use Rattle.buffer.proofs.Laws.{within-true, within-in, same-lengths}
 use Rattle.buffer.proofs.Rules.{each}
 use Rattle.forms.specs.Forms.{digitData}
@@ -16,9 +16,9 @@ use Rattle.forms.specs.declared.Digit.{Digit}
 use Rattle.forms.specs.declared.Digit.the-variants.{Is, Isnt}
 use Rattle.requests.specs.AskV1.{sixDigits, bareOf, digitOne, oneOf, unitAt, askV1}
 use Rattle.requests.specs.declared.RequestV1.{RequestV1}
-use Rattle.requests.specs.declared.RequestV1.the-variants.{Measure, ReadFactor, Unlock, SetFactor, ReadUnit, SetUnit}
+use Rattle.requests.specs.declared.RequestV1.the-variants.{Measure, ReadFactor, Unlock, SetFactor, ReadUnit}
 use Rattle.requests.specs.declared.AskV1.{AskV1}
-use Rattle.requests.specs.declared.AskV1.the-variants.{Asks, Denied}
+use Rattle.requests.specs.declared.AskV1.the-variants.{Asks}
 use Rattle.gauge_rules_v1.specs.RulesV1.{unlocks}
 use Rattle.gauge_table.specs.DecidedV2.{by}
 use Rattle.gauge_table.specs.After.{asksUnlock}

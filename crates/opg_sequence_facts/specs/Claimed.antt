@@ -123,14 +123,6 @@ module _ (g : Gauge) (p : Pressure) where
   abbrev answered : Bool → Benched
   answered b = pick b (record { gauge = record { settings = g .settings; pressure = p }; number = 20 }) (record { gauge = g; number = 15 })
 
-  pub bench-number : State.benched g p .number ≡ pick (takes p) 20 15
-  unfolding State.benched pick
-  bench-number = go (takes p)
-    where
-      go : (b : Bool) → answered b .number ≡ pick b 20 15
-      go true = refl
-      go false = refl
-
   bench-settings : State.benched g p .gauge .settings ≡ g .settings
   unfolding State.benched pick
   bench-settings = go (takes p)
@@ -220,7 +212,7 @@ sofar (ask {h} {g} {s} {before} {after} {r} t (sent, moved)) =
 sofar (tell {h} {g} {p} {r} t e) =
     let c = sofar t in
     record {
-      answers = (ap (λ (x : Benched). x .number) e ∙ bench-number g p, c .answers);
+      answers = (subst (λ (m : Model). Fixed m (set p (r .number))) (c .holds) (ap (λ (x : Benched). x .number) e), c .answers);
       holds = ap (λ (x : Benched). held (x .gauge)) e ∙ ap (λ (m : Model). step m (bench p)) (c .holds);
       setting = λ key. ap (λ (x : Benched). holding key (x .gauge .settings)) e ∙ ap (holding key) (bench-settings g p) ∙ c .setting key;
       pressure = follows saysPressure (start .pressure) (set p (r .number)) h (g .pressure) (r .gauge .pressure) (c .pressure) (rw e (bench-pressure g p));

@@ -55,11 +55,11 @@ pub data Trace : History → Gauge → Type 0 where
 -- ---- what the rules fix
 
 -- "each answer number and reply, with its length, is what document 01 fixes from the gauge's book"; "the lent memory starts with that reply and is
--- otherwise unchanged": `Sent` has both. The reply lies within the memory. The bench answers 20 where it takes the pressure, and 15 otherwise
+-- otherwise unchanged": `Sent` has both. The reply lies within the memory
 abbrev pub Fixed : Model → Exchange → Type 0
 Fixed m (asked s before number len after) =
     Sent before (answerOf (length before) (gaugeOf m) s) after (record { number = number; len = len }) × (len ≤ length before)
-Fixed m (set p number) = number ≡ pick (takes p) 20 15
+Fixed m (set p number) = number ≡ benched (gaugeOf m) p .number
 
 -- each call's answer is what the rules fix from the model of the calls before it
 abbrev pub AllFixed : History → Type 0

@@ -1,5 +1,5 @@
 -- The claim is about something: every sequence of calls can be had, and one shows that the last write counts. Assumes nothing.
-use mathlib.Core.Path.{_≡_, refl, sym, ap, _∙_}
+use mathlib.Core.Path.{_≡_, refl, ap}
 use mathlib.Core.Bool.{xor}
 use mathlib.Core.List.{List, [], _∷_, _++_, map}
 use Prim.Native.Nat.{ℕ}
@@ -27,7 +27,7 @@ use Rattle.opg_answer.specs.declared.Answered.{Answered}
 use Rattle.opg_facts.specs.Examples.{hex, hexOf}
 use Rattle.opg_sequence_facts.specs.Model.{Model, gaugeOf}
 use Rattle.opg_sequence_facts.specs.Sequence.{Exchange, asked, set, History, model, Trace, begin, ask, tell, AllFixed}
-use Rattle.opg_sequence_facts.specs.Claimed.{bench-number, claimed}
+use Rattle.opg_sequence_facts.specs.Claimed.{claimed}
 
 -- a call before it is answered: a request with the memory lent, or a pressure that the bench offers
 pub data Call : Type 0 where
@@ -78,7 +78,7 @@ only {h} t = go h (claimed t .answers)
     go (asked s before n len after ∷ h) (f, fs) =
         rw (f .0 .number, f .0 .len, f .0 .memory) (ap (λ (x : History). exchange (model x) (asks s before) ∷ x) (go h fs))
     go (set p n ∷ h) (f, fs) =
-        rw (f ∙ sym (bench-number (gaugeOf (model h)) p)) (ap (λ (x : History). exchange (model x) (tells p) ∷ x) (go h fs))
+        rw f (ap (λ (x : History). exchange (model x) (tells p) ∷ x) (go h fs))
 
 -- ---- the last write counts
 

@@ -8,12 +8,10 @@ use native.Mathlib.Nat.{add-sub-cancel-left}
 use native.Mathlib.Omega.{arith}
 use lib.ListN.{length, take, drop, length-append, length-take, length-drop, take-append-drop}
 use lib.Seq.{drop-drop, drop-append-le, sets, sets-eq}
-use Rattle.buffer.specs.First.{pick}
 use Rattle.buffer.specs.Answer.{Answer, over, Sent}
 use Rattle.buffer.specs.declared.Written.{Written}
 use Rattle.readings.specs.Bench.{benchOf, benchNumber}
 use Rattle.readings.specs.declared.Bench.{Bench}
-use Rattle.opg_gauge.specs.State.{takes}
 use Rattle.opg_gauge.specs.declared.Pressure.{Pressure}
 use Rattle.sequence_facts.specs.Claimed as text
 use Rattle.opg_sequence_facts.specs.Claimed as opg
@@ -22,7 +20,7 @@ use Rattle.script.specs.declared.To.{To}
 use Rattle.script.specs.declared.To.the-variants.{Text, Opg}
 use Rattle.script.specs.declared.Call.{Call}
 use Rattle.script.specs.declared.Call.the-variants.{Request, Line, Setting, Offer, End}
-use Rattle.player.specs.Played.{Exchange, asked, lined, told, offered, History, numberOf, lengthOf, answerTo, lineFor, Standing, answered, made, advance}
+use Rattle.player.specs.Played.{Exchange, asked, lined, told, offered, History, numberOf, lengthOf, answerTo, lineFor, offerNumber, Standing, answered, made, advance}
 use Rattle.player.specs.Advance.{advances, stands}
 use Rattle.player.specs.Inner.{Traces, Made, One}
 use Rattle.player.specs.declared.Gauges.{Gauges}
@@ -83,7 +81,7 @@ lined-fixed t = text.claimed (t .of-text-gauge) .answers .0
 told-fixed : {g : Gauges} {h : History} {b : Bench} {n : ℕ} → Traces (told b n ∷ h) g → n ≡ benchNumber (benchOf b)
 told-fixed t = text.claimed (t .of-text-gauge) .answers .0
 
-offered-fixed : {g : Gauges} {h : History} {p : Pressure} {n : ℕ} → Traces (offered p n ∷ h) g → n ≡ pick (takes p) 20 15
+offered-fixed : {g : Gauges} {h : History} {p : Pressure} {n : ℕ} → Traces (offered p n ∷ h) g → n ≡ offerNumber h p
 offered-fixed t = opg.claimed (t .of-opg-gauge) .answers .0
 
 -- ---- the memory

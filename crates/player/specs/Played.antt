@@ -6,13 +6,13 @@ use Prim.Native.Nat.{ℕ, zero, suc, _+_, min}
 use lib.Dec.{ltb}
 use lib.ListN.{length, take, drop}
 use lib.Seq.{sets}
-use Rattle.buffer.specs.First.{_⇒_, first, pick}
+use Rattle.buffer.specs.First.{_⇒_, first}
 use Rattle.buffer.specs.Answer.{Answer, over}
 use Rattle.readings.specs.Bench.{benchOf, benchNumber}
 use Rattle.readings.specs.declared.Bench.{Bench}
 use Rattle.line.specs.Line.{lineAnswer}
 use Rattle.gauge_table.specs.After as text-answers
-use Rattle.opg_gauge.specs.State.{takes}
+use Rattle.opg_gauge.specs.State.{benched}
 use Rattle.opg_gauge.specs.declared.Pressure.{Pressure}
 use Rattle.opg_answer.specs.Reply as opg-answers
 use Rattle.sequence_facts.specs.Sequence as text
@@ -82,6 +82,9 @@ answerTo Opg h room s = opg-answers.answerOf room (gaugeOf (opg.model (opgs h)))
 abbrev pub lineFor : History → ℕ → Answer
 lineFor h room = lineAnswer room (text.model (texts h) .settings) (text.model (texts h) .readings)
 
+abbrev pub offerNumber : History → Pressure → ℕ
+offerNumber h q = benched (gaugeOf (opg.model (opgs h))) q .number
+
 -- ---- the play of a script
 
 -- what stands after some calls: the history, where the next call begins, where the memory not yet lent begins, and the memory
@@ -109,7 +112,7 @@ made script p (Line room) =
     let a = lineFor (p .history) (length (lent p room)) in
     answered p room a (lined (lent p room) (a .number) (length (a .reply)) (over (a .reply) (lent p room))) (p .at + 3)
 made script p (Setting b) = record { history = told b (benchNumber (benchOf b)) ∷ p .history; at = p .at + 10; used = p .used; memory = p .memory }
-made script p (Offer q) = record { history = offered q (pick (takes q) 20 15) ∷ p .history; at = p .at + 6; used = p .used; memory = p .memory }
+made script p (Offer q) = record { history = offered q (offerNumber (p .history) q) ∷ p .history; at = p .at + 6; used = p .used; memory = p .memory }
 made script p End = p
 
 -- one call more, unless no whole call stands next, or the memory left is too small for it

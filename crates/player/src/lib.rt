@@ -17,7 +17,7 @@ pub struct Gauges {
 
 // After one call: the gauges, where the next call and the memory not yet lent begin, and the answer's number and length. Or no call was
 // made, and more is false.
-pub struct Turn {
+struct Turn {
     pub gauges: Gauges,
     pub at: usize,
     pub used: usize,

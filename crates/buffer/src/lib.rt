@@ -142,7 +142,7 @@ pub fn all_within(s: &[u8], low: u8, high: u8) -> bool
 }
 
 // What a digit stands for. Below `0` it is 0.
-fn value(b: u8) -> u32
+pub fn value(b: u8) -> u32
     ensures { λ r. ⌜ r ≡ b - 48 ⌝ }
 {
     if b < 48 {

@@ -13,6 +13,10 @@ use Rattle.decimal.specs.declared.Scan.the-variants.{Of, NoForm}
 use Rattle.decimal.specs.declared.Parsed.{Parsed}
 use Rattle.decimal.specs.declared.Parsed.the-variants.{Value, Syntax, Range}
 
+-- the exact value of a whole number
+abbrev pub whole : Bool → ℕ → Exact
+whole negative n = record { negative = negative; digits = n; up = 0; down = 0 }
+
 -- how many digits stand at the front
 unfoldable pub leading : List ℕ → ℕ
 leading [] = 0
@@ -60,7 +64,7 @@ fractionOf s x n =
 unfoldable pub unsignedOf : List ℕ → Bool → Scan
 unsignedOf s negative =
     let n = leading s in
-    let x : Exact = record { negative = negative; digits = numeral (take n s); up = 0; down = 0 } in
+    let x = whole negative (numeral (take n s)) in
     let t = drop n s in
     first
     (ltb n 1 ⇒ NoForm

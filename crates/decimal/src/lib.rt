@@ -6,7 +6,7 @@ ghost use lib.ListN.{take};
 ghost use lib.Dec.{ltb};
 ghost use Rattle.buffer.specs.Byte.{numeral};
 ghost use Rattle.decimal.specs.Exact.{units, sizeOf, normalOf};
-ghost use Rattle.decimal.specs.Form.{leading, startsWith, powerOf, exponentOf, fractionOf, unsignedOf, scanOf, numberOf};
+ghost use Rattle.decimal.specs.Form.{whole, leading, startsWith, powerOf, exponentOf, fractionOf, unsignedOf, scanOf, numberOf};
 ghost use Rattle.decimal.specs.Number.{belowOf, countedOf, hundredthsOf};
 ghost use Rattle.decimal.specs.Inner.{Scaled};
 
@@ -219,6 +219,21 @@ fn exponent(s: &[u8], x: Exact) -> Scan
         return power(buffer::rest(t, 1), x, true);
     }
     power(t, x, false)
+}
+
+// The value of a whole number with what follows it: nothing, or an exponent.
+pub fn read_exponent(negative: bool, digits: u32, s: &[u8]) -> Scan
+    ensures { λ r. ⌜ r ≡ exponentOf (now (s .entry)) (whole negative digits) ⌝ }
+{
+    exponent(
+        s,
+        Exact {
+            negative,
+            digits,
+            up: 0,
+            down: 0,
+        },
+    )
 }
 
 // What follows the point: x has the n digits that stand before it.

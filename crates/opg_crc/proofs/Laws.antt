@@ -5,7 +5,7 @@ use mathlib.Core.List.{List, [], _∷_, _++_, append-assoc}
 use Prim.Native.Nat.{ℕ, zero, suc, _+_, _*_, _/_, _%_, _^_, _<_, _≤_}
 use native.Mathlib.Nat.{zero-add, suc-add, pow-suc, pow-le-pow-right}
 use native.Mathlib.Omega.{arith}
-use lib.Bits.{bitXor, xor-shr, xor-mod, xor-lt}
+use lib.Bits.{bitXor, differ, xor-step, xor-shr, xor-mod, xor-lt, xor-zero-r, xor-shifted, shifted-half, shifted-even, xor-comm}
 use lib.Dec.{eqb}
 use lib.ListN.{length, getD, drop, replicate, drop-of-length-le}
 use Rattle.buffer.proofs.Laws.{drop-step}
@@ -141,3 +141,62 @@ crc-end c s i h k =
     nil : (k n : ℕ) → digits k n ++ [] ≡ digits k n
     nil zero n = refl
     nil (suc k) n = ap (λ (q : List Bool). eqb (n % 2) 1 ∷ q) (nil k (n / 2))
+
+-- ---- eight steps at once
+
+differ-swap : (d e f : ℕ) → d < 2 → e < 2 → f < 2 → differ (bitXor d e) f ≡ differ (bitXor d f) e
+differ-swap zero zero zero h k l = refl
+differ-swap zero zero (suc zero) h k l = refl
+differ-swap zero (suc zero) zero h k l = refl
+differ-swap zero (suc zero) (suc zero) h k l = refl
+differ-swap (suc zero) zero zero h k l = refl
+differ-swap (suc zero) zero (suc zero) h k l = refl
+differ-swap (suc zero) (suc zero) zero h k l = refl
+differ-swap (suc zero) (suc zero) (suc zero) h k l = refl
+differ-swap (suc (suc d)) e f h k l = absurd (omega arith)
+differ-swap zero (suc (suc e)) f h k l = absurd (omega arith)
+differ-swap (suc zero) (suc (suc e)) f h k l = absurd (omega arith)
+differ-swap zero zero (suc (suc f)) h k l = absurd (omega arith)
+differ-swap zero (suc zero) (suc (suc f)) h k l = absurd (omega arith)
+differ-swap (suc zero) zero (suc (suc f)) h k l = absurd (omega arith)
+differ-swap (suc zero) (suc zero) (suc (suc f)) h k l = absurd (omega arith)
+
+-- the order of two exclusive ors does not matter
+xor-swap : (k a b c : ℕ) → a < 2 ^ k → b < 2 ^ k → c < 2 ^ k → bitXor (bitXor a b) c ≡ bitXor (bitXor a c) b
+xor-swap zero a b c h i j =
+    let p : a ≡ 0 = omega arith in
+    let q : b ≡ 0 = omega arith in
+    let r : c ≡ 0 = omega arith in
+    rw (p, q, r)
+xor-swap (suc k) a b c h i j =
+    let half = xor-swap k (a / 2) (b / 2) (c / 2) (omega (arith, pow-suc 2 k)) (omega (arith, pow-suc 2 k)) (omega (arith, pow-suc 2 k)) in
+    xor-step (bitXor a b) c ∙ ap₂ (λ (x y : ℕ). bitXor x (c / 2) * 2 + differ y (c % 2)) (xor-shr a b 1) (xor-mod a b 1)
+    ∙ ap₂ (λ (x y : ℕ). x * 2 + y) half (differ-swap (a % 2) (b % 2) (c % 2) (omega arith) (omega arith) (omega arith))
+    ∙ ap₂ (λ (x y : ℕ). bitXor x (b / 2) * 2 + differ y (b % 2)) (sym (xor-shr a c 1)) (sym (xor-mod a c 1)) ∙ sym (xor-step (bitXor a c) b)
+
+-- a number whose lowest digit is 0 goes through a step as its half
+bit-even : (x y : ℕ) → y % 2 ≡ 0 → x < 65536 → y < 65536 → bitOf (bitXor x y) ≡ bitXor (bitOf x) (y / 2)
+unfolding bitOf
+bit-even x y e h k =
+    let same : bitXor x y % 2 ≡ x % 2 = xor-mod x y 1 ∙ ap (bitXor (x % 2)) e ∙ xor-zero-r (x % 2) in
+    ap₂ (λ (m n : ℕ). cond (eqb m 1) (bitXor n 0x8408) n) same (xor-shr x y 1) ∙ go (eqb (x % 2) 1)
+  where
+    go : (t : Bool) → cond t (bitXor (bitXor (x / 2) (y / 2)) 0x8408) (bitXor (x / 2) (y / 2)) ≡ bitXor (cond t (bitXor (x / 2) 0x8408) (x / 2)) (y / 2)
+    go true = xor-swap 16 (x / 2) (y / 2) 0x8408 (omega arith) (omega arith) (omega arith)
+    go false = refl
+
+bits-high : (k x m : ℕ) → x < 65536 → m * 2 ^ k < 65536 → bitsOf k (bitXor x (m * 2 ^ k)) ≡ bitXor (bitsOf k x) m
+unfolding bitsOf
+bits-high zero x m h l =
+    let e : m * 2 ^ 0 ≡ m = omega arith in
+    rw e
+bits-high (suc k) x m h l =
+    ap (bitsOf k) (bit-even x (m * 2 ^ suc k) (shifted-even m k) h l ∙ ap (bitXor (bitOf x)) (shifted-half m k))
+    ∙ bits-high k (bitOf x) m (bit-lt x h) (omega (arith, shifted-half m k))
+
+-- eight steps: those of the low eight digits, and the high ones as they are
+pub eight-steps : (x : ℕ) → x < 65536 → bitXor (bitsOf 8 (x % 256)) (x / 256) ≡ bitsOf 8 x
+eight-steps x h =
+    let whole : x / 256 * 2 ^ 8 + x % 256 ≡ x = omega arith in
+    sym (bits-high 8 (x % 256) (x / 256) (omega arith) (omega arith))
+    ∙ ap (bitsOf 8) (xor-comm (x % 256) (x / 256 * 2 ^ 8) ∙ xor-shifted (x / 256) 8 (x % 256) (omega arith) ∙ whole)

@@ -67,7 +67,7 @@ fn ask_text(g: Gauges, request: &[u8], part: &mut [u8], at: usize, used: usize) 
 {
     let old = g.text;
     let opg = g.opg;
-    let a = gauge::answer(old, request, part);
+    let a = text_gauge::answer(old, request, part);
     let next = a.gauge;
     let w = a.written;
     made(Gauges { text: next, opg }, at, used, w.number, w.len as u16)
@@ -101,7 +101,7 @@ fn show(g: Gauges, part: &mut [u8], at: usize, used: usize) -> Turn
     ensures { λ r. ⌜ Made g (lined (now (part .entry)) (r .number) (r .len) (now (part .exit))) at used r ⌝ }
 {
     let text = g.text;
-    let w = gauge::stream_line(text, part);
+    let w = text_gauge::stream_line(text, part);
     made(g, at, used, w.number, w.len as u16)
 }
 
@@ -112,7 +112,7 @@ fn tell(g: Gauges, b: readings::Bench, at: usize, used: usize) -> Turn
 {
     let old = g.text;
     let opg = g.opg;
-    let a = gauge::set_bench(old, b);
+    let a = text_gauge::set_bench(old, b);
     let told = a.gauge;
     made(Gauges { text: told, opg }, at, used, a.number, 0)
 }

@@ -14,12 +14,12 @@ use Rattle.gauge_rules.specs.declared.Gauge.{Gauge}
 use Rattle.sequence_facts.specs.Sequence.{History, asked, set, lined, Trace, begin, ask, tell, show}
 use Rattle.gauge_rules.proofs.Gauge.at_start.Kinds as at-start-kinds
 use Rattle.gauge_rules.proofs.Gauge.at_start.Reads as at-start-reads
-use Rattle.gauge.proofs.answer.Kinds as answer-kinds
-use Rattle.gauge.proofs.answer.Reads as answer-reads
-use Rattle.gauge.proofs.set_bench.Kinds as set-bench-kinds
-use Rattle.gauge.proofs.set_bench.Reads as set-bench-reads
-use Rattle.gauge.proofs.stream_line.Kinds as stream-line-kinds
-use Rattle.gauge.proofs.stream_line.Reads as stream-line-reads
+use Rattle.text_gauge.proofs.answer.Kinds as answer-kinds
+use Rattle.text_gauge.proofs.answer.Reads as answer-reads
+use Rattle.text_gauge.proofs.set_bench.Kinds as set-bench-kinds
+use Rattle.text_gauge.proofs.set_bench.Reads as set-bench-reads
+use Rattle.text_gauge.proofs.stream_line.Kinds as stream-line-kinds
+use Rattle.text_gauge.proofs.stream_line.Reads as stream-line-reads
 
 pub begin-step : (κs : Lfts 0) (a : Dens κs at-start-kinds.ps) (r : resT at-start-kinds.r κs .Denot) (x : AtExit (endedOf 0 at-start-kinds.ps at-start-kinds.r) κs)
     → at-start-reads.Learnt κs a r x → Trace [] r

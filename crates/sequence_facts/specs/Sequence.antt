@@ -40,9 +40,9 @@ use Rattle.gauge_rules.specs.State.{State, stateOf, fresh}
 use Rattle.gauge_rules.specs.declared.Gauge.{Gauge}
 use Rattle.gauge_table.specs.Asked.{isV1, askedV2, askedV1}
 use Rattle.gauge_table.specs.After.{answerOf}
-use Rattle.gauge.specs.Answer.{Answers, Benches}
-use Rattle.gauge.specs.declared.Answered.{Answered}
-use Rattle.gauge.specs.declared.BenchAnswer.{BenchAnswer}
+use Rattle.text_gauge.specs.Answer.{Answers, Benches}
+use Rattle.text_gauge.specs.declared.Answered.{Answered}
+use Rattle.text_gauge.specs.declared.BenchAnswer.{BenchAnswer}
 use Rattle.gauge_facts.specs.Kept.{SoundState}
 use Rattle.history.specs.Latest.{Each, latest}
 use Rattle.sequence_facts.specs.Model.{Fed, request, bench, line, modelOf}

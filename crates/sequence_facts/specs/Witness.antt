@@ -46,9 +46,9 @@ use Rattle.readings.specs.declared.Bench.the-variants.{Reads}
 use Rattle.readings_facts.specs.Sound.{Machine}
 use Rattle.gauge_rules.specs.State.{State, stateOf, fresh}
 use Rattle.gauge_rules.specs.declared.Gauge.{Gauge}
-use Rattle.gauge.specs.Answer.{Answers, Benches}
-use Rattle.gauge.specs.declared.Answered.{Answered}
-use Rattle.gauge.specs.declared.BenchAnswer.{BenchAnswer}
+use Rattle.text_gauge.specs.Answer.{Answers, Benches}
+use Rattle.text_gauge.specs.declared.Answered.{Answered}
+use Rattle.text_gauge.specs.declared.BenchAnswer.{BenchAnswer}
 use Rattle.gauge_facts.specs.Kept.{SoundState, fresh-sound, next-sound, bench-sound}
 use Rattle.history.specs.Latest.{Each}
 use Rattle.sequence_facts.specs.Model.{step, modelOf}

@@ -1,23 +1,15 @@
 -- `opg_crc::byte` meets its contract. Assumes nothing.
+use native.Mathlib.Omega.{arith}
 use borrow.Author.Needs.{needs}
-use Rattle.opg_crc.specs.Inner.{bitsOf, byteOf}
+use lib.Bits.{xor-lt}
+use Rattle.opg_crc.proofs.Fold.{byte-is}
 use Rattle.opg_crc.proofs.byte.Statement.{statement}
 use Rattle.opg_crc.proofs.byte.Tie as tie
 
-returns : tie.Need-returns
-unfolding byteOf bitsOf
-returns c = cc
+mul-y : tie.Need-mul-y
+mul-y c = omega (arith, xor-lt 16 (c .args .b) (c .args .c) (omega (arith, c .fits)) (c .pre))
 
 pub byte-spec : {M : Type 1} → statement M
 byte-spec =
     tie.close
-    (tie.spec
-    (λ c κs. search needs)
-    (λ c κs. search needs)
-    (λ c κs. search needs)
-    (λ c κs. search needs)
-    (λ c κs. search needs)
-    (λ c κs. search needs)
-    (λ c κs. search needs)
-    (λ c κs. search needs)
-    returns)
+    (tie.spec mul-y (λ c. search needs) (λ c. search needs) (λ c. byte-is (c .args .c) (c .args .b) (c .pre) (omega (arith, c .fits))))

@@ -34,8 +34,9 @@ crc-spec =
     μ-loop
     (λ c. (omega arith, omega arith, refl))
     (λ c. omega arith)
-    (λ c κs. tt)
+    (λ c κs. c .before .before .loop .inv .1)
     (λ c. omega arith)
     (λ c. omega arith)
     loop-again
+    (λ c. omega (arith, c .before .loop .inv .1))
     (λ c. let l = c .before .loop in sym (crc-end (l .c) (c .before .before .before .args .s .now) (l .i) (c .loop-test .left) (l .inv .1)) ∙ l .inv .2))

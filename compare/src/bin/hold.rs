@@ -1,0 +1,228 @@
+//! `hold [CALLS [SEED]]` holds the proved gauges, request readers and writers
+//! and the CRC to the reference, on at least CALLS random and damaged calls of
+//! each gauge (a million where none is given). Each sequence begins at factory
+//! settings; numbers, lengths and every byte of the lent memory are compared.
+
+#[path = "../proved.rs"]
+mod proved;
+
+use compare::opg;
+use compare::random::{Generator, Random};
+use compare::replay::{read_hex, to_hex};
+use compare::script::{self, Gauges, To};
+use compare::text::{master, request};
+use std::collections::BTreeMap;
+
+/// The calls of a sequence.
+const LINES: usize = 400;
+/// Disagreements to print.
+const SHOWN: usize = 10;
+
+#[derive(Default)]
+struct Counts {
+    sequences: usize,
+    text: usize,
+    opg: usize,
+    requests: usize,
+    opg_requests: usize,
+    crcs: usize,
+    disagreements: usize,
+    /// How often each number was answered.
+    numbers: BTreeMap<u16, usize>,
+}
+
+/// What a sequence of lines comes to: a script, and requests to rewrite.
+#[derive(Default)]
+struct Sequence {
+    script: Vec<u8>,
+    requests: Vec<Vec<u8>>,
+    opg_requests: Vec<Vec<u8>>,
+}
+
+fn main() {
+    let words: Vec<u64> = std::env::args().skip(1).filter_map(|word| word.parse().ok()).collect();
+    let least = words.first().map_or(1_000_000, |count| *count as usize);
+    let first_seed = words.get(1).copied().unwrap_or(1);
+    let mut counts = Counts::default();
+    let mut random = Random::new(first_seed);
+    while counts.text < least || counts.opg < least {
+        let seed = first_seed + counts.sequences as u64;
+        let sequence = sequence_of(seed, &mut random);
+        hold(&mut counts, &mut random, seed, sequence);
+        counts.sequences += 1;
+    }
+    println!("sequences from factory settings: {}", counts.sequences);
+    println!("calls of the text gauge: {}; of the OPG: {}", counts.text, counts.opg);
+    println!("answers by number: {}", listed(&counts.numbers));
+    println!("text requests read and written again: {}", counts.requests);
+    println!("OPG requests read and written again: {}", counts.opg_requests);
+    println!("CRCs: {}", counts.crcs);
+    println!("disagreements: {}", counts.disagreements);
+    std::process::exit(i32::from(counts.disagreements != 0));
+}
+
+/// The calls of one generator, from factory settings to the first restart.
+fn sequence_of(seed: u64, random: &mut Random) -> Sequence {
+    let mut generator = Generator::new(seed);
+    let mut sequence = Sequence::default();
+    for _ in 0..LINES {
+        let line = generator.call();
+        let words: Vec<&str> = line.split(' ').collect();
+        match words[..] {
+            ["restart"] => break,
+            ["text", lent, hex] => script::push_request(&mut sequence.script, To::Text, number(lent), &bytes(hex)),
+            ["line", lent] => script::push_line(&mut sequence.script, number(lent)),
+            ["opg", lent, hex] => script::push_request(&mut sequence.script, To::Opg, number(lent), &bytes(hex)),
+            ["bench", source, value] => {
+                script::push_bench(&mut sequence.script, source, value);
+            }
+            ["opgbench", "none"] => script::push_opg_bench(&mut sequence.script, None),
+            ["opgbench", bits] => {
+                script::push_opg_bench(&mut sequence.script, u32::from_str_radix(bits, 16).ok());
+            }
+            ["request", hex] => sequence.requests.push(bytes(hex)),
+            ["opgrequest", hex] => sequence.opg_requests.push(bytes(hex)),
+            // What a reply would be makes one more request for the readers.
+            ["reply", _, request, reply] => sequence.requests.extend([bytes(request), bytes(reply)]),
+            ["opgreply", request, reply] => sequence.opg_requests.extend([bytes(request), bytes(reply)]),
+            _ => (),
+        }
+        if random.chance(4) {
+            raw_bench(&mut sequence.script, random);
+        }
+    }
+    sequence
+}
+
+fn number(word: &str) -> usize {
+    word.parse().unwrap_or(0)
+}
+
+fn bytes(hex: &str) -> Vec<u8> {
+    read_hex(hex).unwrap_or_default()
+}
+
+/// A bench setting of any numbers, which no text would give.
+fn raw_bench(script: &mut Vec<u8>, random: &mut Random) {
+    let digits = match random.below(4) {
+        0 => random.next() as u32,
+        1 => random.below(200_000) as u32,
+        2 => random.pick(&[0, 1, 10, 1000, 100_000, 999_999, 1_000_000, 1_234_560, 999_999_000, u32::MAX]),
+        _ => (random.below(1_000_000) as u32) * random.pick(&[1, 10, 100, 1000]),
+    };
+    let places = [0, 0, 0, 1, 2, 3, 5, 9, 12, 99, 255];
+    let code = if random.chance(90) { random.pick(&[0, 1, 2, 6, 7, 8, 9]) } else { random.byte() };
+    script.extend([2, random.pick(&[0, 0, 0, 0, 1, 2, 3, 4]), code, random.pick(&[0, 0, 0, 1, 255])]);
+    script.extend(digits.to_be_bytes());
+    script.extend([random.pick(&places), random.pick(&places)]);
+}
+
+/// How often each number occurred, as `number: times`.
+fn listed(numbers: &BTreeMap<u16, usize>) -> String {
+    let each: Vec<String> = numbers.iter().map(|(number, times)| format!("{number}: {times}")).collect();
+    each.join(", ")
+}
+
+fn hold(counts: &mut Counts, random: &mut Random, seed: u64, sequence: Sequence) {
+    let agree = same_play(counts, random, &sequence.script);
+    note(counts, agree, || format!("sequence {seed}"));
+    for request in &sequence.requests {
+        let agree = same_call(random, master::WRITER_ROOM, |out| proved::rewrite_text(request, out), |out| {
+            match request::read_request(request) {
+                Ok((address, typed)) => master::write(u32::from(address), &typed, out),
+                Err(number) => (number, 0),
+            }
+        });
+        note(counts, agree, || format!("request {}", to_hex(request)));
+        counts.requests += 1;
+    }
+    for request in &sequence.opg_requests {
+        let agree = same_call(random, opg::LEAST_ROOM, |out| proved::rewrite_opg(request, out), |out| {
+            match opg::read_request(request) {
+                Ok(typed) => opg::write(typed, out),
+                Err(number) => (number, 0),
+            }
+        });
+        note(counts, agree, || format!("OPG request {}", to_hex(request)));
+        counts.opg_requests += 1;
+    }
+    let long: Vec<u8> = (0..random.below(1300)).map(|_| random.byte()).collect();
+    note(counts, proved::opg_crc(&long) == opg::crc(&long), || format!("CRC {}", to_hex(&long)));
+    counts.crcs += 1;
+}
+
+fn note(counts: &mut Counts, agree: bool, what: impl FnOnce() -> String) {
+    if !agree {
+        counts.disagreements += 1;
+        if counts.disagreements <= SHOWN {
+            println!("disagreement: {}", what());
+        }
+    }
+}
+
+/// Plays a script, now and then damaged, on both: whether everything agrees.
+fn same_play(counts: &mut Counts, random: &mut Random, script: &[u8]) -> bool {
+    let mut script = script.to_vec();
+    let mut room = LINES * 260;
+    let mut places = (LINES * 2, LINES * 2);
+    if random.chance(10) {
+        match random.below(5) {
+            0 => script.truncate(random.below(script.len() + 1)),
+            1 if !script.is_empty() => {
+                let at = random.below(script.len());
+                script[at] = random.byte();
+            }
+            2 => room = random.below(20_000),
+            3 => places.0 = random.below(100),
+            _ => places.1 = random.below(100),
+        }
+    }
+    let old: Vec<u8> = (0..room).map(|_| random.byte()).collect();
+    let (mut here, mut there) = (old.clone(), old);
+    let (mut numbers, mut lens) = (vec![7777u16; places.0], vec![8888u16; places.1]);
+    let (mut numbers_there, mut lens_there) = (numbers.clone(), lens.clone());
+    let calls = proved::play(&script, &mut here, &mut numbers, &mut lens);
+    let calls_there = Gauges::start().play(&script, &mut there, &mut numbers_there, &mut lens_there);
+    let agree = calls == calls_there && here == there && numbers == numbers_there && lens == lens_there;
+    for number in &numbers[..calls] {
+        *counts.numbers.entry(*number).or_default() += 1;
+    }
+    let (text, opg) = script::by_gauge(&script, calls);
+    counts.text += text;
+    counts.opg += opg;
+    if !agree {
+        explain((calls, &numbers, &lens, &here), (calls_there, &numbers_there, &lens_there, &there));
+    }
+    agree
+}
+
+type Outcome<'a> = (usize, &'a [u16], &'a [u16], &'a [u8]);
+
+/// Prints the first call at which two plays differ.
+fn explain(proved: Outcome, reference: Outcome) {
+    let answers = |play: Outcome, at: usize| (play.1.get(at).copied(), play.2.get(at).copied());
+    let first = (0..proved.1.len()).find(|at| answers(proved, *at) != answers(reference, *at));
+    if let Some(at) = first {
+        println!("call {at}: proved {:?}, reference {:?}", answers(proved, at), answers(reference, at));
+    }
+    let byte = proved.3.iter().zip(reference.3).position(|(one, two)| one != two);
+    println!("calls: proved {}, reference {}; first byte that differs: {byte:?}", proved.0, reference.0);
+}
+
+/// Makes one call on both with the same memory; compares number, length and
+/// every byte.
+fn same_call(
+    random: &mut Random,
+    least: usize,
+    proved: impl FnOnce(&mut [u8]) -> (u16, usize),
+    reference: impl FnOnce(&mut [u8]) -> (u16, usize),
+) -> bool {
+    let room = match random.below(20) {
+        0 => random.below(least),
+        1 => least + random.below(200),
+        _ => least,
+    };
+    let old: Vec<u8> = (0..room).map(|_| random.byte()).collect();
+    let (mut here, mut there) = (old.clone(), old);
+    proved(&mut here) == reference(&mut there) && here == there
+}

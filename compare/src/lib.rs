@@ -1,0 +1,14 @@
+//! An independent implementation of the rules of document 01, used as the
+//! reference that another implementation is compared with.
+
+pub mod opg;
+pub mod random;
+pub mod replay;
+pub mod script;
+pub mod text;
+
+/// Puts the bytes at the start of the memory; the bytes after them stay.
+pub fn place(bytes: &[u8], memory: &mut [u8]) -> usize {
+    memory[..bytes.len()].copy_from_slice(bytes);
+    bytes.len()
+}

@@ -1,0 +1,2 @@
+-- Laws of bench settings in words.
+pub mod Laws

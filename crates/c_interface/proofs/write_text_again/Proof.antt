@@ -1,0 +1,24 @@
+-- `c_interface::write_text_again` meets its contract. Assumes nothing.
+use mathlib.Core.Path.{refl}
+use borrow.Author.Needs.{needs}
+use Rattle.buffer.proofs.Laws.{refuses}
+use Rattle.c_interface.specs.Boundary.{textAgain}
+use Rattle.c_interface.proofs.write_text_again.Statement.{statement}
+use Rattle.c_interface.proofs.write_text_again.Tie as tie
+
+pub write-text-again-spec : {M : Type 1} → statement M
+unfolding textAgain
+write-text-again-spec =
+    tie.close
+    (tie.spec
+    (λ c. search needs)
+    (λ c κs. search needs)
+    (λ c. search needs)
+    (λ c κs. search needs)
+    (λ c. search needs)
+    (λ c. search needs)
+    (λ c. search needs)
+    (λ c. rw (c .before .before .before .before .before .request .given .1) (c .before .before .write-request-v1 .ensures))
+    (λ c. search needs)
+    (λ c. rw (c .before .before .before .before .before .request2 .given .1) (c .before .before .write-request-v2 .ensures))
+    (λ c. rw (c .before .request3 .given .1) (refuses _ _ refl)))

@@ -1,0 +1,2 @@
+-- What the C boundary promises.
+pub mod Boundary

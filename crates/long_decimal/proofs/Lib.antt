@@ -1,0 +1,2 @@
+-- Laws of long decimals.
+pub mod Laws

@@ -1,0 +1,2 @@
+-- Decimals as people write them.
+pub mod Long

@@ -1,0 +1,2 @@
+-- Document 01, "Examples to be proved (marked)".
+pub mod Marked

@@ -1,0 +1,77 @@
+// A stream of text requests served by one gauge: the whole requests that stand in lent bytes are answered in order, and an unfinished end is
+// kept for the bytes that follow it.
+ghost use mathlib.Core.Path.{_≡_};
+ghost use Prim.Native.Nat.{_≤_, min};
+ghost use lib.ListN.{length};
+ghost use Rattle.gauge_rules.specs.State.{stateOf};
+ghost use Rattle.service.specs.Served.{mostKept, Serves, Keeps};
+
+// The gauge after the requests, how many bytes they have, and how many bytes their replies have.
+pub struct Served {
+    pub gauge: gauge_rules::Gauge,
+    pub taken: usize,
+    pub len: usize,
+}
+
+// How many bytes of an unfinished end are kept.
+pub const KEPT_MAX: usize = 110;
+
+// Answers the whole requests of the input, each up to and with its CR. Their replies stand one after another at the front of the memory lent.
+// Serving stops where no whole request is left, or less memory than an answer asks for.
+pub fn serve(g: gauge_rules::Gauge, input: &[u8], out: &mut [u8]) -> Served
+    ensures { λ r. ⌜ Serves (stateOf g) (now (input .entry)) (now (out .entry)) (now (out .exit)) r ⌝ }
+    ensures { λ r. ⌜ (r .taken ≤ length (now (input .entry))) × (r .len ≤ length (now (out .entry))) ⌝ }
+{
+    let mut h = g;
+    let mut at: usize = 0;
+    let mut used: usize = 0;
+    while text_gauge::ROOM <= out.len() - used {
+        let n = buffer::until(buffer::rest(input, at), 13);
+        if input.len() - at <= n {
+            return Served {
+                gauge: h,
+                taken: at,
+                len: used,
+            };
+        }
+        let end = at + n + 1;
+        let a = text_gauge::answer(h, &input[at..end], &mut out[used..]);
+        let asked = a.gauge;
+        let w = a.written;
+        h = asked;
+        at = end;
+        used += w.len;
+    }
+    Served {
+        gauge: h,
+        taken: at,
+        len: used,
+    }
+}
+
+fn least(a: usize, b: usize) -> usize
+    ensures { λ r. ⌜ r ≡ min a b ⌝ }
+{
+    if a < b {
+        return a;
+    }
+    b
+}
+
+// Moves the bytes from `from` up to `to` to the front, at most the first 110 of them, and says how many. A `to` past the memory's end counts as
+// its end. Where `to` is not past `from`, nothing moves.
+pub fn keep(buf: &mut [u8], from: usize, to: usize) -> usize
+    ensures { λ r. ⌜ Keeps (now (buf .entry)) from to (now (buf .exit)) r ⌝ }
+    ensures { λ r. ⌜ r ≤ mostKept ⌝ }
+{
+    let end = least(to, buf.len());
+    if end <= from {
+        return 0;
+    }
+    let n = least(end - from, KEPT_MAX);
+    let last = from + n;
+    let mut held = [0u8; 110];
+    buffer::put(&mut held, 0, &buf[from..last]);
+    buffer::put(buf, 0, &held[..n]);
+    n
+}

@@ -1,0 +1,170 @@
+-- The parts of an answer, put together. Assumes nothing.
+use mathlib.Core.Path.{_≡_, sym, ap, _∙_}
+use mathlib.Core.Bool.{Bool, true, false, not, true≢false, false≢true}
+use mathlib.Core.List.{List}
+use Prim.Native.Nat.{ℕ, _≤_}
+use native.Mathlib.Omega.{arith}
+use borrow.Author.Tests.{ne-eqb, not-false}
+use lib.Dec.{eqb, ltb}
+use lib.ListN.{length}
+use Rattle.buffer.specs.First.{pick}
+use Rattle.buffer.specs.Byte.{at, within, isDigit}
+use Rattle.buffer.specs.Answer.{Sent}
+use Rattle.buffer.specs.declared.Written.{Written}
+use Rattle.buffer.proofs.Laws.{refuses, within-true, within-below}
+use Rattle.buffer.proofs.Rules.{each, not-eqb, not-neqb}
+use Rattle.frames.specs.Frame.{isLetter, dataFrom, addressOf, lengthFits, misshapen, wrongLength, headV1, headV2, frameOf}
+use Rattle.frames.specs.declared.HeadV1.{HeadV1}
+use Rattle.frames.specs.declared.HeadV2.{HeadV2}
+use Rattle.frames.specs.declared.Frame.{Frame}
+use Rattle.frame_writer.specs.Written.{frameV1, frameV2}
+use Rattle.settings.specs.Settings.{held}
+use Rattle.settings.specs.declared.Settings.{Settings}
+use Rattle.requests.specs.AskV2.{askV2, askList}
+use Rattle.requests.specs.AskV1.{askV1}
+use Rattle.requests.specs.declared.RequestV2.{RequestV2}
+use Rattle.requests.specs.declared.RequestV1.{RequestV1}
+use Rattle.requests.specs.declared.AskV2.{AskV2}
+use Rattle.requests.specs.declared.AskV2.the-variants.{For, Refused}
+use Rattle.requests.specs.declared.AskV1.{AskV1}
+use Rattle.requests.specs.declared.AskV1.the-variants.{Asks, Denied}
+use Rattle.gauge_rules.specs.State.{State, stateOf}
+use Rattle.gauge_rules.specs.RulesV2.{answerCode, grantV2, textV2, enterV2}
+use Rattle.gauge_rules_v1.specs.RulesV1.{grantV1, textV1, repeats, unlocks, enterV1}
+use Rattle.gauge_rules.specs.declared.Gauge.{Gauge}
+use Rattle.gauge_table.specs.Table.{answerRoom, otherAddress, numberOf}
+use Rattle.gauge_table.specs.Reply.{errorV2, errorV1, answerHead}
+use Rattle.gauge_table.specs.Numbers.{Framed, Tells, tells, number-6, number-v1, number-v2}
+use Rattle.text_gauge.specs.Answer.{Answers}
+use Rattle.text_gauge.specs.Inner.{Fits, answerV2, nextV2, answerV1, nextV1, AnswersV2, AnswersV1}
+use Rattle.text_gauge.specs.declared.Answered.{Answered}
+use Rattle.text_gauge.proofs.Bridge.{quiet, table-v2, table-length, table-v1, sendable}
+
+-- an answer that was made, with another name
+abbrev Made : Gauge → Written → Answered → Type 0
+Made gauge w r = (r .gauge ≡ gauge) × (r .written ≡ w)
+
+-- ---- V2: a typed request
+
+module _ (gauge : Gauge) (h : HeadV2) (ask : AskV2) (list m m′ : List ℕ) (w : Written) (r : Answered) where
+  pub refused-v2 : (k : ℕ) → ask ≡ Refused k → Made gauge w r → Sent m (record { number = k; reply = errorV2 k h }) m′ w → AnswersV2 (stateOf gauge) h ask list m m′ r
+  unfolding answerV2 nextV2
+  refused-v2 k e f s = rw e (record { sent = rw (f .1) s; state = ap stateOf (f .0) })
+
+  pub denied-v2 : (q : RequestV2) (n : ℕ) → ask ≡ For q → n ≡ grantV2 (stateOf gauge) q → (n ≡ 0 → ⊥) → Made gauge w r → Sent m (record { number = n; reply = errorV2 n h }) m′ w
+      → AnswersV2 (stateOf gauge) h ask list m m′ r
+  unfolding answerV2 nextV2 pick
+  denied-v2 q n e g z f s =
+      let z0 : eqb (grantV2 (stateOf gauge) q) 0 ≡ false = ne-eqb _ 0 (λ o. z (g ∙ o)) in
+      rw e (record { sent = rw (f .1, z0, ← g) s; state = rw z0 (ap stateOf (f .0)) })
+
+pub granted-v2 : (gauge : Gauge) (h : HeadV2) (ask : AskV2) (list m m′ : List ℕ) (w : Written) (q : RequestV2) (n code : ℕ) (text : List ℕ) (s : Settings) → ask ≡ For q → n ≡ grantV2 (stateOf gauge) q → n ≡ 0
+    → code ≡ answerCode q → text ≡ textV2 (stateOf gauge) q → Sent m (record { number = 0; reply = frameV2 (answerHead h code) text }) m′ w → held s ≡ enterV2 (held (gauge .settings)) q list
+    → AnswersV2 (stateOf gauge) h ask list m m′ (record { gauge = record { settings = s; readings = gauge .readings; unlocked = gauge .unlocked }; written = w })
+unfolding answerV2 nextV2 pick
+granted-v2 gauge h ask list m m′ w q n code text s e g z c t f k =
+    let z0 : grantV2 (stateOf gauge) q ≡ 0 = sym g ∙ z in
+    rw e (record { sent = rw z0 (rw (c, t) at f); state = rw (z0, k) })
+
+-- ---- V1: a typed request
+
+module _ (gauge : Gauge) (s : List ℕ) (h : HeadV1) (ask : AskV1) (m m′ : List ℕ) (w : Written) (r : Answered) where
+  pub refused-v1 : (k : ℕ) → ask ≡ Denied k → Made (record { settings = gauge .settings; readings = gauge .readings; unlocked = false }) w r → Sent m (record { number = k; reply = errorV1 k h }) m′ w
+      → AnswersV1 (stateOf gauge) s h ask m m′ r
+  unfolding answerV1 nextV1
+  refused-v1 k e f t = rw e (record { sent = rw (f .1) t; state = ap stateOf (f .0) })
+
+  pub denied-v1 : (q : RequestV1) (n : ℕ) → ask ≡ Asks q → n ≡ grantV1 (stateOf gauge) q → (n ≡ 0 → ⊥) → Made (record { settings = gauge .settings; readings = gauge .readings; unlocked = false }) w r
+      → Sent m (record { number = n; reply = errorV1 n h }) m′ w → AnswersV1 (stateOf gauge) s h ask m m′ r
+  unfolding answerV1 nextV1 pick
+  denied-v1 q n e g z f t =
+      let z0 : eqb (grantV1 (stateOf gauge) q) 0 ≡ false = ne-eqb _ 0 (λ o. z (g ∙ o)) in
+      rw e (record { sent = rw (f .1, z0, ← g) t; state = rw z0 (ap stateOf (f .0)) })
+
+pub granted-v1 : (gauge : Gauge) (s : List ℕ) (h : HeadV1) (ask : AskV1) (m m′ : List ℕ) (w : Written) (q : RequestV1) (n : ℕ) (t : Settings) → ask ≡ Asks q → n ≡ grantV1 (stateOf gauge) q → n ≡ 0
+    → Sent m (record { number = 0; reply = pick (repeats q) s (frameV1 h (textV1 (stateOf gauge) q)) }) m′ w → held t ≡ enterV1 (held (gauge .settings)) q
+    → (u : Bool) → u ≡ unlocks q → AnswersV1 (stateOf gauge) s h ask m m′ (record { gauge = record { settings = t; readings = gauge .readings; unlocked = u }; written = w })
+unfolding answerV1 nextV1 pick
+granted-v1 gauge s h ask m m′ w q n t e g z f k u v =
+    let z0 : grantV1 (stateOf gauge) q ≡ 0 = sym g ∙ z in
+    rw e (record { sent = rw z0 f; state = rw (z0, k, v) })
+
+-- ---- any bytes
+
+pub tells-at : (s : List ℕ) (f : Frame) → f ≡ frameOf s → Tells s f
+tells-at s f e = rw e (tells s)
+
+pub no-room : (g : State) (room : ℕ) (s : List ℕ) → ltb room answerRoom ≡ true → numberOf g room s ≡ 1
+unfolding numberOf pick
+no-room g room s e = rw e
+
+module _ (gauge : Gauge) (s m : List ℕ) where
+  pub silent-answers : (k : ℕ) (r : Answered) → numberOf (stateOf gauge) (length m) s ≡ k → within 1 5 k ≡ true → Made gauge (record { number = k; len = 0 }) r → Answers (stateOf gauge) s m m r
+  silent-answers k r n w f =
+      let q = quiet (stateOf gauge) (length m) s k n w in
+      record { sent = rw (f .1) (refuses m k (q .0)); state = ap stateOf (f .0) ∙ sym (q .1) }
+
+  module _ (m′ : List ℕ) (r : Answered) (room : ltb (length m) answerRoom ≡ false) (fr : Framed s) (o : otherAddress (stateOf gauge) s ≡ false) where
+    pub v1-answers : (head : HeadV1) (bytes : List ℕ) (ask : AskV1) → isLetter (at s 3) ≡ true → head ≡ headV1 s → bytes ≡ dataFrom 4 s → ask ≡ askV1 (head .letter) bytes
+        → AnswersV1 (stateOf gauge) s head ask m m′ r → Answers (stateOf gauge) s m m′ r
+    unfolding headV1
+    v1-answers head bytes ask l e b a h =
+        let t = table-v1 (stateOf gauge) s l (length m) (number-v1 s (stateOf gauge) (length m) room fr o l) in
+        let h′ = rw (a, b, e) at h in
+        record { sent = rw (t .0) (h′ .sent); state = h′ .state ∙ sym (t .1) }
+
+    pub v2-answers : (head : HeadV2) (bytes : List ℕ) (ask : AskV2) (list : List ℕ) → isLetter (at s 3) ≡ false → wrongLength s ≡ false → head ≡ headV2 s → bytes ≡ dataFrom 8 s → ask ≡ askV2 head bytes
+        → list ≡ askList head bytes → AnswersV2 (stateOf gauge) head ask list m m′ r → Answers (stateOf gauge) s m m′ r
+    v2-answers head bytes ask list l w e b a i h =
+        let t = table-v2 (stateOf gauge) s l (length m) (number-v2 s (stateOf gauge) (length m) room fr o l w) in
+        let h′ = rw (a, i, b, e) at h in
+        record { sent = rw (t .0) (h′ .sent); state = h′ .state ∙ sym (t .1) }
+
+    pub length-answers : (head : HeadV2) (w : Written) → isLetter (at s 3) ≡ false → wrongLength s ≡ true → head ≡ headV2 s → Made gauge w r
+        → Sent m (record { number = 6; reply = errorV2 6 head }) m′ w → Answers (stateOf gauge) s m m′ r
+    length-answers head w l x e f h =
+        let t = table-length (stateOf gauge) s l (length m) (number-6 s (stateOf gauge) (length m) room fr o l x) in
+        record { sent = rw (t .0, f .1) (rw e at h); state = ap stateOf (f .0) ∙ sym (t .1) }
+
+-- ---- addresses and lengths
+
+module _ (s m : List ℕ) (a : ℕ) where
+  pub other-v1 : (head : HeadV1) → head ≡ headV1 s → (head .address ≡ a → ⊥) → not (eqb (addressOf s) a) ≡ true
+  unfolding headV1
+  other-v1 head e f = not-neqb (addressOf s) a (λ z. f (ap (λ (h : HeadV1). h .address) e ∙ z))
+
+  pub own-v1 : (head : HeadV1) → head ≡ headV1 s → head .address ≡ a → not (eqb (addressOf s) a) ≡ false
+  unfolding headV1
+  own-v1 head e z = not-eqb (addressOf s) a (sym (ap (λ (h : HeadV1). h .address) e) ∙ z)
+
+  pub other-v2 : (head : HeadV2) → head ≡ headV2 s → (head .address ≡ a → ⊥) → not (eqb (addressOf s) a) ≡ true
+  unfolding headV2
+  other-v2 head e f = not-neqb (addressOf s) a (λ z. f (ap (λ (h : HeadV2). h .address) e ∙ z))
+
+  pub own-v2 : (head : HeadV2) → head ≡ headV2 s → head .address ≡ a → not (eqb (addressOf s) a) ≡ false
+  unfolding headV2
+  own-v2 head e z = not-eqb (addressOf s) a (sym (ap (λ (h : HeadV2). h .address) e) ∙ z)
+
+  pub fits-v1 : (head : HeadV1) → Framed s → head ≡ headV1 s → head .address ≡ a → a ≤ 255 → 64 ≤ length m → Fits (head .address) m
+  unfolding headV1
+  fits-v1 head f e z n r = record { room = r; sendable = rw z (sendable s a (f .address) (sym (ap (λ (h : HeadV1). h .address) e) ∙ z) n) }
+
+  pub fits-v2 : (head : HeadV2) → Framed s → head ≡ headV2 s → head .address ≡ a → a ≤ 255 → 64 ≤ length m → Fits (head .address) m
+  unfolding headV2
+  fits-v2 head f e z n r = record { room = r; sendable = rw z (sendable s a (f .address) (sym (ap (λ (h : HeadV2). h .address) e) ∙ z) n) }
+
+-- a letter is no digit
+no-digit : (b : ℕ) → isLetter b ≡ true → isDigit b ≡ true → ⊥
+unfolding isLetter
+no-digit b l d =
+    let h = within-true 48 57 b d in
+    absurd (true≢false (sym l ∙ rw (within-below 65 90 b (omega arith), within-below 97 122 b (omega arith))))
+
+-- a V1 frame has at most twelve bytes
+pub v1-short : (s : List ℕ) → Framed s → isLetter (at s 3) ≡ true → length s ≤ 12
+unfolding misshapen lengthFits
+v1-short s f l =
+    each (λ (x : Bool). x ≡ false → length s ≤ 12) _ _ _ (λ _ e. absurd (true≢false e))
+    (λ t _.
+    each (λ (x : Bool). x ≡ true → length s ≤ 12) _ _ _ (λ d _. absurd (no-digit (at s 3) l d)) (λ _. each (λ (x : Bool). x ≡ true → length s ≤ 12) _ _ _ (λ _ e. within-true 6 12 (length s) e .1) (λ _ e. absurd (false≢true e))) (not-false _ t))
+    (f .shape)

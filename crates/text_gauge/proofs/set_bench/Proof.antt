@@ -1,0 +1,25 @@
+-- `gauge::set_bench` meets its contract. Assumes nothing.
+use mathlib.Core.Path.{_≡_, refl, sym, _∙_}
+use borrow.Author.Needs.{needs}
+use Rattle.readings.specs.Bench.{benchOf}
+use Rattle.readings.specs.declared.Benched.the-variants.{Refused}
+use Rattle.gauge_table.specs.After.{benched}
+use Rattle.text_gauge.proofs.set_bench.Statement.{statement}
+use Rattle.text_gauge.proofs.set_bench.Tie as tie
+
+returns : tie.Need-returns
+unfolding benched
+returns c =
+    let e : benchOf (c .before .before .before .before .before .args .b) ≡ Refused = sym (c .before .before .judge-bench .ensures) ∙ c .enum-told .given .1 in
+    record { number = rw e refl; state = rw e }
+
+returns-2 : tie.Need-returns-2
+unfolding benched
+returns-2 c =
+    let e = sym (c .before .before .before .before .judge-bench .ensures) ∙ c .before .before .x .given .1 in
+    record { number = rw e; state = rw (e, c .with .ensures) }
+
+pub set-bench-spec : {M : Type 1} → statement M
+set-bench-spec =
+    tie.close
+    (tie.spec (λ c κs. search needs) (λ c. search needs) (λ c. search needs) (λ c κs. search needs) returns returns-2)

@@ -1,0 +1,22 @@
+-- What the text gauge promises: its answer in lent memory, and its state afterwards. Assumes nothing.
+use mathlib.Core.Path.{_≡_}
+use mathlib.Core.List.{List}
+use Prim.Native.Nat.{ℕ}
+use lib.ListN.{length}
+use Rattle.buffer.specs.Answer.{Sent}
+use Rattle.readings.specs.Bench.{benchOf, benchNumber}
+use Rattle.readings.specs.declared.Bench.{Bench}
+use Rattle.gauge_rules.specs.State.{State, stateOf}
+use Rattle.gauge_table.specs.After.{answerOf, nextOf, benched}
+use Rattle.text_gauge.specs.declared.Answered.{Answered}
+use Rattle.text_gauge.specs.declared.BenchAnswer.{BenchAnswer}
+
+-- a gauge g, asked with the bytes s and lent the memory `before`, answered r and left the memory `after`
+pub record Answers (g : State) (s before after : List ℕ) (r : Answered) : Type 0 where
+  pub sent : Sent before (answerOf g (length before) s) after (r .written)
+  pub state : stateOf (r .gauge) ≡ nextOf g (length before) s
+
+-- "An accepted bench setting is answered 0", "anything else is refused with 15"; "no bench call has a reply"
+pub record Benches (g : State) (b : Bench) (r : BenchAnswer) : Type 0 where
+  pub number : r .number ≡ benchNumber (benchOf b)
+  pub state : stateOf (r .gauge) ≡ benched g (benchOf b)

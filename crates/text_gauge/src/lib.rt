@@ -1,0 +1,278 @@
+// The simulated text gauge: any bytes answered in lent memory, V1 and V2 from one set of settings; its bench and its stream line.
+ghost use mathlib.Core.Path.{_≡_};
+ghost use mathlib.Core.List.{[], _∷_};
+ghost use Prim.Native.Nat.{_≤_};
+ghost use lib.ListN.{length};
+ghost use Rattle.buffer.specs.Text.{textOf};
+ghost use Rattle.buffer.specs.Answer.{Sent};
+ghost use Rattle.sources.specs.Source.{listOf};
+ghost use Rattle.settings.specs.Settings.{held};
+ghost use Rattle.frame_writer.specs.Written.{frameV1, frameV2};
+ghost use Rattle.buffer.specs.First.{_⇒_, first};
+ghost use Rattle.gauge_rules.specs.State.{stateOf};
+ghost use Rattle.gauge_rules_v1.specs.RulesV1.{textV1, repeats};
+ghost use Rattle.line.specs.Line.{lineAnswer};
+ghost use Rattle.gauge_table.specs.Reply.{errorV2, errorV1, answerHead};
+ghost use Rattle.text_gauge.specs.Answer.{Answers, Benches};
+ghost use Rattle.text_gauge.specs.Inner.{Fits, AnswersV2, AnswersV1};
+
+// The gauge after a request, and what it answered.
+pub struct Answered {
+    pub gauge: gauge_rules::Gauge,
+    pub written: buffer::Written,
+}
+
+// The gauge after a bench setting, and the answer's number.
+pub struct BenchAnswer {
+    pub gauge: gauge_rules::Gauge,
+    pub number: u16,
+}
+
+// The lent memory that an answer asks for.
+pub const ROOM: usize = 64;
+
+// ---- replies
+
+// Writes the error frame that answers a V2 request.
+fn refuse_v2(out: &mut [u8], head: frames::HeadV2, number: u8) -> buffer::Written
+    requires { ⌜ Fits (head .address) (now out) ⌝ }
+    ensures { λ r. ⌜ Sent (now (out .entry)) (record { number = number; reply = errorV2 number head }) (now (out .exit)) r ⌝ }
+{
+    let w = frame_writer::write_error_v2(out, head, number);
+    buffer::Written {
+        number: number as u16,
+        len: w.len,
+    }
+}
+
+// Writes the reply to an accepted V2 request: its access code and its data.
+fn reply_v2(out: &mut [u8], head: frames::HeadV2, access: u8, text: buffer::Text) -> buffer::Written
+    requires { ⌜ Fits (head .address) (now out) ⌝ }
+    ensures { λ r. ⌜ Sent (now (out .entry)) (record { number = 0; reply = frameV2 (answerHead head access) (textOf text) }) (now (out .exit)) r ⌝ }
+{
+    let answer = frames::HeadV2 {
+        address: head.address,
+        access,
+        first: head.first,
+        second: head.second,
+    };
+    frame_writer::write_text_v2(out, answer, text)
+}
+
+// Writes the error frame that answers a V1 request.
+fn refuse_v1(out: &mut [u8], head: frames::HeadV1, number: u8) -> buffer::Written
+    requires { ⌜ Fits (head .address) (now out) ⌝ }
+    ensures { λ r. ⌜ Sent (now (out .entry)) (record { number = number; reply = errorV1 number head }) (now (out .exit)) r ⌝ }
+{
+    let w = frame_writer::write_error_v1(out, head, number);
+    buffer::Written {
+        number: number as u16,
+        len: w.len,
+    }
+}
+
+// Writes the reply to an accepted V1 request that reads.
+fn reply_v1(out: &mut [u8], head: frames::HeadV1, text: buffer::Text) -> buffer::Written
+    requires { ⌜ Fits (head .address) (now out) ⌝ }
+    requires { ⌜ length (textOf text) ≤ 6 ⌝ }
+    ensures { λ r. ⌜ Sent (now (out .entry)) (record { number = 0; reply = frameV1 head (textOf text) }) (now (out .exit)) r ⌝ }
+{
+    frame_writer::write_text_v1(out, head, text)
+}
+
+// Writes the request again.
+fn repeat(out: &mut [u8], request: &[u8]) -> buffer::Written
+    requires { ⌜ length (now request) ≤ length (now out) ⌝ }
+    ensures { λ r. ⌜ Sent (now (out .entry)) (record { number = 0; reply = now (request .entry) }) (now (out .exit)) r ⌝ }
+{
+    buffer::put(out, 0, request);
+    buffer::Written {
+        number: 0,
+        len: request.len(),
+    }
+}
+
+// ---- requests
+
+fn same(gauge: gauge_rules::Gauge, written: buffer::Written) -> Answered
+    ensures { λ r. ⌜ (r .gauge ≡ gauge) × (r .written ≡ written) ⌝ }
+{
+    Answered { gauge, written }
+}
+
+// A V2 request, and the sources beside it.
+fn answer_v2(
+    g: gauge_rules::Gauge,
+    head: frames::HeadV2,
+    asked: requests::AskedV2,
+    out: &mut [u8],
+) -> Answered
+    requires { ⌜ Fits (head .address) (now out) ⌝ }
+    ensures { λ r. ⌜ AnswersV2 (stateOf g) head (asked .ask) (listOf (asked .sources)) (now (out .entry)) (now (out .exit)) r ⌝ }
+{
+    let ask = asked.ask;
+    let list = asked.sources;
+    match ask {
+        requests::AskV2::Refused(k) => same(g, refuse_v2(out, head, k)),
+        requests::AskV2::For(request) => {
+            let number = gauge_rules::number_v2(g, request);
+            if number != 0 {
+                return same(g, refuse_v2(out, head, number));
+            }
+            let text = gauge_rules::text_v2(g, request);
+            let written = reply_v2(out, head, gauge_rules::answer_code(request), text);
+            let s = g.settings;
+            let readings = g.readings;
+            let unlocked = g.unlocked;
+            let settings = gauge_rules::enter_v2(s, request, list);
+            Answered {
+                gauge: gauge_rules::Gauge {
+                    settings,
+                    readings,
+                    unlocked,
+                },
+                written,
+            }
+        }
+    }
+}
+
+// A V1 request that reads or sets, and is accepted.
+fn granted_v1(
+    g: gauge_rules::Gauge,
+    request: &[u8],
+    head: frames::HeadV1,
+    asks: requests::RequestV1,
+    out: &mut [u8],
+) -> buffer::Written
+    requires { ⌜ Fits (head .address) (now out) ⌝ }
+    requires { ⌜ length (now request) ≤ 12 ⌝ }
+    ensures { λ r. ⌜ Sent (now (out .entry)) (record { number = 0; reply = first (repeats asks ⇒ now (request .entry) ∷ []) (frameV1 head (textV1 (stateOf g) asks)) }) (now (out .exit)) r ⌝ }
+{
+    if gauge_rules_v1::repeats_request(asks) {
+        return repeat(out, request);
+    }
+    let text = gauge_rules_v1::text_v1(g, asks);
+    reply_v1(out, head, text)
+}
+
+// A V1 request. It ends the unlock, unless it is an accepted unlock.
+fn answer_v1(
+    g: gauge_rules::Gauge,
+    request: &[u8],
+    head: frames::HeadV1,
+    ask: requests::AskV1,
+    out: &mut [u8],
+) -> Answered
+    requires { ⌜ Fits (head .address) (now out) ⌝ }
+    requires { ⌜ length (now request) ≤ 12 ⌝ }
+    ensures { λ r. ⌜ AnswersV1 (stateOf g) (now (request .entry)) head ask (now (out .entry)) (now (out .exit)) r ⌝ }
+{
+    let settings = g.settings;
+    let readings = g.readings;
+    let locked = gauge_rules::Gauge {
+        settings,
+        readings,
+        unlocked: false,
+    };
+    match ask {
+        requests::AskV1::Denied(k) => same(locked, refuse_v1(out, head, k)),
+        requests::AskV1::Asks(asks) => {
+            let number = gauge_rules_v1::number_v1(g, asks);
+            if number != 0 {
+                return same(locked, refuse_v1(out, head, number));
+            }
+            let written = granted_v1(g, request, head, asks, out);
+            let unlocked = gauge_rules_v1::unlocks_gauge(asks);
+            let entered = gauge_rules_v1::enter_v1(settings, asks);
+            Answered {
+                gauge: gauge_rules::Gauge {
+                    settings: entered,
+                    readings,
+                    unlocked,
+                },
+                written,
+            }
+        }
+    }
+}
+
+fn silent(gauge: gauge_rules::Gauge, number: u16) -> Answered
+    ensures { λ r. ⌜ (r .gauge ≡ gauge) × (r .written ≡ record { number = number; len = 0 }) ⌝ }
+{
+    Answered {
+        gauge,
+        written: buffer::Written { number, len: 0 },
+    }
+}
+
+// Answers any bytes, in any memory lent.
+pub fn answer(g: gauge_rules::Gauge, request: &[u8], out: &mut [u8]) -> Answered
+    ensures { λ r. ⌜ Answers (stateOf g) (now (request .entry)) (now (out .entry)) (now (out .exit)) r ⌝ }
+{
+    if out.len() < ROOM {
+        return silent(g, 1);
+    }
+    let s = g.settings;
+    let address = s.address as u16;
+    match frames::read_frame(request) {
+        frames::Frame::Silent(k) => silent(g, k as u16),
+        frames::Frame::V1(head) => {
+            if head.address != address {
+                return silent(g, 5);
+            }
+            let ask = requests::read_v1(head.letter, frames::data_from(request, 4));
+            answer_v1(g, request, head, ask, out)
+        }
+        frames::Frame::Length(head) => {
+            if head.address != address {
+                return silent(g, 5);
+            }
+            same(g, refuse_v2(out, head, 6))
+        }
+        frames::Frame::V2(head) => {
+            if head.address != address {
+                return silent(g, 5);
+            }
+            let asked = requests::read_v2(head, frames::data_from(request, 8));
+            answer_v2(g, head, asked, out)
+        }
+    }
+}
+
+// ---- the bench and the stream line
+
+// Sets a reading or FS, or refuses with 15 and changes nothing.
+pub fn set_bench(g: gauge_rules::Gauge, b: readings::Bench) -> BenchAnswer
+    ensures { λ r. ⌜ Benches (stateOf g) b r ⌝ }
+{
+    let settings = g.settings;
+    let old = g.readings;
+    let unlocked = g.unlocked;
+    match readings::judge_bench(b) {
+        readings::Benched::Refused => BenchAnswer {
+            gauge: g,
+            number: 15,
+        },
+        readings::Benched::Accepted(x) => {
+            let readings = old.with(x);
+            BenchAnswer {
+                gauge: gauge_rules::Gauge {
+                    settings,
+                    readings,
+                    unlocked,
+                },
+                number: 0,
+            }
+        }
+    }
+}
+
+// Writes the stream line. The gauge stays as it is.
+pub fn stream_line(g: gauge_rules::Gauge, out: &mut [u8]) -> buffer::Written
+    ensures { λ r. ⌜ Sent (now (out .entry)) (lineAnswer (length (now (out .entry))) (held (g .settings)) (g .readings)) (now (out .exit)) r ⌝ }
+{
+    let s = g.settings;
+    let r = g.readings;
+    line::stream_line(s, r, out)
+}

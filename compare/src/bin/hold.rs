@@ -2,16 +2,21 @@
 //! and the CRC to the reference, on at least CALLS random and damaged calls of
 //! each gauge (a million where none is given). Each sequence begins at factory
 //! settings; numbers, lengths and every byte of the lent memory are compared.
+//! Then it holds the program `replay`, where it is built, to the reference on
+//! CALLS random lines: so the reply readers too.
 
 #[path = "../proved.rs"]
 mod proved;
 
 use compare::opg;
 use compare::random::{Generator, Random};
-use compare::replay::{read_hex, to_hex};
+use compare::replay::{read_hex, to_hex, World};
 use compare::script::{self, Gauges, To};
 use compare::text::{master, request};
 use std::collections::BTreeMap;
+use std::io::{self, Write};
+use std::path::Path;
+use std::process::{Command, Stdio};
 
 /// The calls of a sequence.
 const LINES: usize = 400;
@@ -26,6 +31,7 @@ struct Counts {
     requests: usize,
     opg_requests: usize,
     crcs: usize,
+    lines: usize,
     disagreements: usize,
     /// How often each number was answered.
     numbers: BTreeMap<u16, usize>,
@@ -57,6 +63,14 @@ fn main() {
     println!("text requests read and written again: {}", counts.requests);
     println!("OPG requests read and written again: {}", counts.opg_requests);
     println!("CRCs: {}", counts.crcs);
+    let program = concat!(env!("CARGO_MANIFEST_DIR"), "/../target/bin/replay");
+    if !Path::new(program).exists() {
+        println!("the program replay is not built (rt check replay)");
+    } else if let Err(error) = hold_replay(&mut counts, program, first_seed, least) {
+        counts.disagreements += 1;
+        println!("the program replay could not be run: {error}");
+    }
+    println!("lines of scripts, by the program replay: {}", counts.lines);
     println!("disagreements: {}", counts.disagreements);
     std::process::exit(i32::from(counts.disagreements != 0));
 }
@@ -115,6 +129,28 @@ fn raw_bench(script: &mut Vec<u8>, random: &mut Random) {
     script.extend([2, random.pick(&[0, 0, 0, 0, 1, 2, 3, 4]), code, random.pick(&[0, 0, 0, 1, 255])]);
     script.extend(digits.to_be_bytes());
     script.extend([random.pick(&places), random.pick(&places)]);
+}
+
+/// Plays random lines on the program and on the reference.
+fn hold_replay(counts: &mut Counts, program: &str, seed: u64, lines: usize) -> io::Result<()> {
+    let mut generator = Generator::new(seed);
+    let script: Vec<String> = (0..lines).map(|_| generator.call()).collect();
+    let mut child = Command::new(program).stdin(Stdio::piped()).stdout(Stdio::piped()).spawn()?;
+    let mut input = child.stdin.take().ok_or(io::ErrorKind::BrokenPipe)?;
+    let text = script.join("\n");
+    let writer = std::thread::spawn(move || input.write_all(text.as_bytes()));
+    let output = child.wait_with_output()?;
+    writer.join().map_err(|_| io::ErrorKind::Other)??;
+    let output = String::from_utf8_lossy(&output.stdout);
+    let answers: Vec<&str> = output.lines().collect();
+    note(counts, answers.len() == lines, || format!("{} lines answered of {lines}", answers.len()));
+    let mut world = World::start();
+    for (line, answer) in script.iter().zip(answers) {
+        let agree = world.run(line) == answer;
+        note(counts, agree, || format!("line {line}: {answer}"));
+        counts.lines += 1;
+    }
+    Ok(())
 }
 
 /// How often each number occurred, as `number: times`.

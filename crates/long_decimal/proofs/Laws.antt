@@ -1,17 +1,17 @@
 -- Laws of the digits of long decimals. Assumes nothing.
 use mathlib.Core.Path.{_≡_, refl, sym, ap, _∙_}
-use mathlib.Core.Bool.{Bool, true, false, not, _||_}
+use mathlib.Core.Bool.{Bool, true, false, not}
 use mathlib.Core.List.{List, [], _∷_, _++_}
-use Prim.Native.Nat.{ℕ, zero, suc, _+_, _-_, _*_, _^_, _<_, _≤_, min}
+use Prim.Native.Nat.{ℕ, zero, suc, _+_, _-_, _*_, _<_, _≤_, min}
 use native.Mathlib.Omega.{arith}
 use lib.Dec.{ltb, leb, eqb}
 use borrow.Author.Tests.{lt-ltb, le-leb, lt-leb, leb-false, leb-true, eq-eqb, ne-eqb}
 use lib.ListN.{length, getD, take, drop, drop-of-length-le}
-use Rattle.buffer.specs.First.{_⇒_, first, pick}
+use Rattle.buffer.specs.First.{pick}
 use Rattle.buffer.specs.Byte.{numeralFrom, numeral}
 use Rattle.buffer.proofs.Laws.{drop-step, ten-max}
 use Rattle.buffer.proofs.Rules.{past, stop, each}
-use Rattle.decimal.specs.Form.{whole, leading, startsWith, powerOf, exponentOf}
+use Rattle.decimal.specs.Form.{whole, leading, powerOf, exponentOf}
 use Rattle.decimal.specs.declared.Exact.{Exact}
 use Rattle.decimal.specs.declared.Scan.{Scan}
 use Rattle.decimal.specs.declared.Scan.the-variants.{Of, NoForm}

@@ -46,7 +46,7 @@ use Rattle.replies_v2.specs.ReplyV2.{notV2, otherAccess, otherCommand, mismatch
 use Rattle.line.specs.Line.{valueOf, valuesOf, tailOf, joined, lineAnswer}
 use Rattle.gauge_rules_v1.specs.RulesV1.{textV1, repeats, unlocks, enterFactor, enterV1}
 use Rattle.gauge_rules.specs.RulesV2.{filamentOf, changesCathode, readsFaulty, sentText, textV2, answerCode, enterV2}
-use Rattle.gauge_rules.specs.State.{State, fresh}
+use Rattle.gauge_rules.specs.State.{fresh}
 use Rattle.gauge_table.specs.After.{answerOf as tableAnswer, enteredV2, enteredV1, asksUnlock, afterwards, nextOf, benched}
 use Rattle.gauge_table.specs.Asked.{unknownCommand, lacks, dataNumber, badFormV2, outsideV2, endsWrong, breaksRule, asksFaulty, unknownLetter, badFormV1, lockedWrite, outsideV1, measuresFaulty}
 use Rattle.gauge_table.specs.Reply.{acceptedV2, acceptedV1, replyOf}

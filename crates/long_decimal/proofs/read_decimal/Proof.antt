@@ -1,5 +1,4 @@
 -- `long_decimal::read_decimal` meets its contract. Assumes nothing.
-use mathlib.Core.Path.{sym, _∙_}
 use borrow.Author.Needs.{needs}
 use Rattle.buffer.proofs.Rules.{past, stop, flag}
 use Rattle.long_decimal.specs.Long.{decimalOf}

@@ -1,9 +1,9 @@
 -- `long_decimal::spell_after` meets its contract. The invariant: what is left, after n, spells the whole. Assumes nothing.
-use mathlib.Core.Path.{_≡_, refl, sym, ap, _∙_}
-use Prim.Native.Nat.{_-_, _≤_, min}
+use mathlib.Core.Path.{_≡_, refl, sym, _∙_}
+use Prim.Native.Nat.{_-_, _≤_}
 use native.Mathlib.Omega.{arith}
 use borrow.Author.Needs.{needs}
-use lib.ListN.{length, drop, getD}
+use lib.ListN.{length, drop}
 use Rattle.buffer.specs.Byte.{numeralFrom}
 use Rattle.long_decimal.proofs.Laws.{spells-step, spells-end, spells-more}
 use Rattle.long_decimal.proofs.spell_after.Statement.{statement}

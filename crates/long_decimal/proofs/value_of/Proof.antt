@@ -1,10 +1,9 @@
 -- `long_decimal::value_of` meets its contract. Assumes nothing.
-use mathlib.Core.Path.{_≡_, refl, sym, ap, subst, _∙_}
+use mathlib.Core.Path.{refl, sym, ap, subst, _∙_}
 use native.Mathlib.Omega.{arith}
 use borrow.Author.Needs.{needs}
 use borrow.Author.Tests.{le-leb, lt-leb}
 use Rattle.buffer.proofs.Rules.{past, stop}
-use Rattle.decimal.specs.Form.{whole, exponentOf}
 use Rattle.long_decimal.specs.Long.{movedOf, valueOf}
 use Rattle.long_decimal.proofs.Laws.{SmallScan, exponent-small}
 use Rattle.long_decimal.proofs.value_of.Statement.{statement}

@@ -1,5 +1,5 @@
 -- `replay::print::hex` is safe and ends. The loop keeps nothing but the output's length. Assumes nothing.
-use Prim.Native.Nat.{_-_, _≤_}
+use Prim.Native.Nat.{_-_}
 use mathlib.Core.Path.{_≡_}
 use native.Mathlib.Omega.{arith}
 use lib.ListN.{length}

@@ -47,51 +47,52 @@ fn restart(out: &mut [u8], at: usize) -> Played {
     }
 }
 
+// The words of a request: how much memory is lent, and how many bytes the request has.
+enum Words {
+    Are(usize, usize),
+    Arent,
+}
+
+// Reads LENT and HEX, and puts the bytes into memory.
+fn read_words(lent: &[u8], hex: &[u8], bytes: &mut [u8]) -> Words {
+    let Read::Is(room) = word::lent(lent) else {
+        return Words::Arent;
+    };
+    let Read::Is(n) = word::bytes(hex, bytes) else {
+        return Words::Arent;
+    };
+    Words::Are(room, n)
+}
+
 fn ask_text(world: World, lent: &[u8], hex: &[u8], out: &mut [u8], at: usize) -> Played {
     let mut bytes = [0u8; BYTES_MAX];
     let mut memory = [print::FILL; LENT_MAX];
-    let Read::Is(room) = word::lent(lent) else {
+    let Words::Are(room, n) = read_words(lent, hex, &mut bytes) else {
         return unknown(world, out, at);
     };
-    let Read::Is(n) = word::bytes(hex, &mut bytes) else {
-        return unknown(world, out, at);
-    };
-    let gauge = world.text;
-    let opg = world.opg;
-    let answered = text_gauge::answer(
-        gauge,
-        word::front(&bytes, n),
-        word::front_mut(&mut memory, room),
-    );
+    let lent_part = word::front_mut(&mut memory, room);
+    let answered = text_gauge::answer(world.text, word::front(&bytes, n), lent_part);
     let text = answered.gauge;
-    let written = answered.written;
+    let opg = world.opg;
     Played {
         world: World { text, opg },
-        at: print::answer(out, at, written, word::front(&memory, room)),
+        at: print::answer(out, at, answered.written, word::front(&memory, room)),
     }
 }
 
 fn ask_opg(world: World, lent: &[u8], hex: &[u8], out: &mut [u8], at: usize) -> Played {
     let mut bytes = [0u8; BYTES_MAX];
     let mut memory = [print::FILL; LENT_MAX];
-    let Read::Is(room) = word::lent(lent) else {
+    let Words::Are(room, n) = read_words(lent, hex, &mut bytes) else {
         return unknown(world, out, at);
     };
-    let Read::Is(n) = word::bytes(hex, &mut bytes) else {
-        return unknown(world, out, at);
-    };
-    let text = world.text;
-    let gauge = world.opg;
-    let answered = opg_answer::answer(
-        gauge,
-        word::front(&bytes, n),
-        word::front_mut(&mut memory, room),
-    );
+    let lent_part = word::front_mut(&mut memory, room);
+    let answered = opg_answer::answer(world.opg, word::front(&bytes, n), lent_part);
     let opg = answered.gauge;
-    let written = answered.written;
+    let text = world.text;
     Played {
         world: World { text, opg },
-        at: print::answer(out, at, written, word::front(&memory, room)),
+        at: print::answer(out, at, answered.written, word::front(&memory, room)),
     }
 }
 

@@ -92,9 +92,3 @@ pub fn answer(out: &mut [u8], at: usize, written: buffer::Written, memory: &[u8]
     let r = changed(out, q, buffer::rest(memory, n));
     text(out, r, b"\n")
 }
-
-// The answer to what was refused: nothing is written.
-pub fn refusal(out: &mut [u8], at: usize, number: u16) -> usize {
-    let written = buffer::Written { number, len: 0 };
-    answer(out, at, written, b"")
-}

@@ -4,10 +4,4 @@ use Rattle.c_interface.proofs.perrezkun_rewrite_opg.Statement.{statemen
 use Rattle.c_interface.proofs.perrezkun_rewrite_opg.Tie as tie
 
 pub perrezkun-rewrite-opg-spec : {M : Type 1} → statement M
-perrezkun-rewrite-opg-spec =
-    tie.close
-    (tie.spec
-    (λ c κs. search needs)
-    (λ c κs. search needs)
-    (λ c. search needs)
-    (λ c. rw (← (c .before .before .before .read-request .ensures)) (c .before .before .write-opg-again .ensures)))
+perrezkun-rewrite-opg-spec = tie.close (tie.spec (λ c κs. search needs) (λ c. search needs) (λ c. c .before .before .rewrite-opg .ensures))

@@ -3,10 +3,5 @@ use borrow.Author.Needs.{needs}
 use Rattle.c_interface.proofs.perrezkun_rewrite_text.Statement.{statement}
 use Rattle.c_interface.proofs.perrezkun_rewrite_text.Tie as tie
 
-returns : tie.Need-returns
-returns c =
-    let read = c .before .before .before .read-request in
-    record { decoded = read .result; decodes = read .ensures; sent = c .before .before .write-text-again .ensures }
-
 pub perrezkun-rewrite-text-spec : {M : Type 1} → statement M
-perrezkun-rewrite-text-spec = tie.close (tie.spec (λ c κs. search needs) (λ c κs. search needs) (λ c. search needs) returns)
+perrezkun-rewrite-text-spec = tie.close (tie.spec (λ c κs. search needs) (λ c. search needs) (λ c. c .before .before .rewrite-text .ensures))

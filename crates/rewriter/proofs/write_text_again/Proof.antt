@@ -1,10 +1,10 @@
--- `c_interface::write_text_again` meets its contract. Assumes nothing.
+-- `rewriter::write_text_again` meets its contract. Assumes nothing.
 use mathlib.Core.Path.{refl}
 use borrow.Author.Needs.{needs}
 use Rattle.buffer.proofs.Laws.{refuses}
-use Rattle.c_interface.specs.Boundary.{textAgain}
-use Rattle.c_interface.proofs.write_text_again.Statement.{statement}
-use Rattle.c_interface.proofs.write_text_again.Tie as tie
+use Rattle.rewriter.specs.Again.{textAgain}
+use Rattle.rewriter.proofs.write_text_again.Statement.{statement}
+use Rattle.rewriter.proofs.write_text_again.Tie as tie
 
 pub write-text-again-spec : {M : Type 1} → statement M
 unfolding textAgain

@@ -1,0 +1,2 @@
+-- Requests read and written again.
+pub mod Again

@@ -3,7 +3,7 @@ use mathlib.Core.Bool.{Bool, true, false, cond, not, _&&_, _||_}
 use mathlib.Core.List.{List, [], _∷_}
 use Prim.Native.Nat.{ℕ, _-_}
 use lib.Dec.{leb, eqb}
-use lib.ListN.{length, take}
+use lib.ListN.{length}
 use Rattle.buffer.specs.First.{_⇒_, first}
 use Rattle.buffer.specs.Byte.{at, within, isDigit, numeral}
 use Rattle.frames.specs.Frame.{isLetter, dataFrom, headV2}
@@ -109,9 +109,9 @@ unfoldable pub outsideV1 : ℕ → List ℕ → Bool
 outsideV1 l d =
     first
     (eqb l 67 ⇒ not (eqb (at d 0 - 48) 1)
-    ∷ (eqb l 99 && sixDigits d) ⇒ not (within (standard .factorLow) (standard .factorHigh) (numeral (take 6 d)))
+    ∷ (eqb l 99 && sixDigits d) ⇒ not (within (standard .factorLow) (standard .factorHigh) (numeral d))
     ∷ eqb l 99 ⇒ not (eqb (at d 0 - 48) 1)
-    ∷ eqb l 117 ⇒ leb 3 (numeral (take 6 d))
+    ∷ eqb l 117 ⇒ leb 3 (numeral d)
     ∷ [])
     false
 

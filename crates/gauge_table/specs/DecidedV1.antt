@@ -6,7 +6,7 @@ use Prim.Native.Nat.{ℕ, zero, suc, _-_}
 use native.Mathlib.Omega.{arith}
 use borrow.Author.Tests.{le-ltb, le-leb, leb-true, ne-eqb, eqb-true}
 use lib.Dec.{eqb, ltb, leb}
-use lib.ListN.{length, take}
+use lib.ListN.{length}
 use Rattle.buffer.specs.First.{_⇒_, first, pick}
 use Rattle.buffer.specs.Byte.{at, isDigit, numeral}
 use Rattle.buffer.proofs.Laws.{within-true}
@@ -103,7 +103,7 @@ module _ (g : State) where
   -- `u` with six digits, and with other data
   six-u : (d : List ℕ) → sixDigits d ≡ true → rowsV1 g 117 d ≡ decidedV1 g (askV1 117 d)
   unfolding unknownLetter badFormV1 lockedWrite outsideV1 measuresFaulty askV1 pick
-  six-u d e = rw e (sym (unit-is (numeral (take 6 d))))
+  six-u d e = rw e (sym (unit-is (numeral d)))
 
   other-u : (d : List ℕ) → sixDigits d ≡ false → rowsV1 g 117 d ≡ decidedV1 g (askV1 117 d)
   unfolding unknownLetter badFormV1 lockedWrite outsideV1 measuresFaulty askV1 decidedV1 pick

@@ -19,6 +19,7 @@ use Rattle.frames.specs.declared.Frame.the-variants.{Silent, V1, Length, V2}
 use Rattle.decimal.specs.Form.{leading}
 use Rattle.decimal.proofs.Laws.{numeral-low}
 use Rattle.requests.specs.AskV1.{sixDigits}
+use Rattle.requests.proofs.Laws.{six-told}
 use Rattle.requests.specs.declared.RequestV1.{RequestV1}
 use Rattle.request_texts.specs.RequestText.{letterV1}
 use Rattle.replies_v1.specs.ReplyV1.{notV1, otherAddress, otherLetter, rowsV1, readV1}
@@ -26,13 +27,6 @@ use Rattle.replies_v1.specs.declared.ReadV1.{ReadV1}
 use Rattle.replies_v1.specs.declared.ReadV1.the-variants.{Refused}
 
 -- ---- six digits
-
--- they are six, and digits
-pub six-told : (s : List ℕ) → sixDigits s ≡ true → (length s ≡ 6) × (every isDigit s ≡ true)
-unfolding sixDigits
-six-told s e =
-    let h = and-eq-true-iff (eqb (length s) 6) (every isDigit s) .0 e in
-    (eqb-true (length s) 6 (h .0), h .1)
 
 -- digits are leading digits
 pub all-lead : (s : List ℕ) → every isDigit s ≡ true → leading s ≡ length s
@@ -49,9 +43,6 @@ four-low s e =
     numeral-low s 4 (omega (arith, all-lead s (h .1), h .0)) (omega arith)
 
 -- all that is spelled is read
-pub six-whole : (s : List ℕ) → sixDigits s ≡ true → numeral (take 6 s) ≡ numeral s
-six-whole s e = ap numeral (take-all 6 s (omega (arith, six-told s e .0)))
-
 pub two-whole : (s : List ℕ) → sixDigits s ≡ true → numeral (take 6 (drop 4 s)) ≡ numeral (drop 4 s)
 two-whole s e = ap numeral (take-all 6 (drop 4 s) (simp length-drop (omega (arith, six-told s e .0))))
 

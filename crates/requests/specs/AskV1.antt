@@ -3,7 +3,7 @@ use mathlib.Core.Bool.{Bool, not, _&&_}
 use mathlib.Core.List.{List, [], _∷_}
 use Prim.Native.Nat.{ℕ}
 use lib.Dec.{eqb}
-use lib.ListN.{length, take}
+use lib.ListN.{length}
 use Rattle.buffer.specs.First.{_⇒_, first, pick}
 use Rattle.buffer.specs.Byte.{isDigit, every, numeral}
 use Rattle.settings.specs.declared.PressureUnit.the-variants.{Mbar, Torr, HPa}
@@ -46,8 +46,8 @@ askV1 letter s =
     first
     (eqb letter 77 ⇒ bareOf s Measure
     ∷ eqb letter 67 ⇒ oneOf s ReadFactor
-    ∷ eqb letter 99 ⇒ pick (sixDigits s) (Asks (SetFactor (numeral (take 6 s)))) (oneOf s Unlock)
+    ∷ eqb letter 99 ⇒ pick (sixDigits s) (Asks (SetFactor (numeral s))) (oneOf s Unlock)
     ∷ eqb letter 85 ⇒ bareOf s ReadUnit
-    ∷ eqb letter 117 ⇒ pick (sixDigits s) (unitAt (numeral (take 6 s))) (Denied 10)
+    ∷ eqb letter 117 ⇒ pick (sixDigits s) (unitAt (numeral s)) (Denied 10)
     ∷ [])
     (Denied 8)

@@ -8,7 +8,7 @@ use Rattle.buffer.specs.Byte.{numeral}
 use Rattle.buffer.proofs.Laws.{within-in, within-below, within-above}
 use Rattle.requests.specs.AskV1.{sixDigits}
 use Rattle.replies_v1.specs.ReplyV1.{factorV1}
-use Rattle.replies_v1.proofs.Laws.{six-whole}
+use Rattle.requests.proofs.Laws.{six-whole}
 use Rattle.replies_v1.proofs.read_factor.Statement.{statement}
 use Rattle.replies_v1.proofs.read_factor.Tie as tie
 

@@ -11,7 +11,8 @@ use Rattle.buffer.proofs.Laws.{within-in, within-below, within-above}
 use Rattle.frames.proofs.Laws.{numeral-part}
 use Rattle.requests.specs.AskV1.{sixDigits}
 use Rattle.replies_v1.specs.ReplyV1.{pressureV1}
-use Rattle.replies_v1.proofs.Laws.{six-told, four-low, two-whole}
+use Rattle.requests.proofs.Laws.{six-told}
+use Rattle.replies_v1.proofs.Laws.{four-low, two-whole}
 use Rattle.replies_v1.proofs.read_pressure.Statement.{statement}
 use Rattle.replies_v1.proofs.read_pressure.Tie as tie
 

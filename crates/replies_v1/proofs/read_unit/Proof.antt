@@ -6,7 +6,7 @@ use borrow.Author.Needs.{needs}
 use Rattle.buffer.specs.First.{pick}
 use Rattle.requests.specs.AskV1.{sixDigits}
 use Rattle.replies_v1.specs.ReplyV1.{unitV1}
-use Rattle.replies_v1.proofs.Laws.{six-whole}
+use Rattle.requests.proofs.Laws.{six-whole}
 use Rattle.replies_v1.proofs.read_unit.Statement.{statement}
 use Rattle.replies_v1.proofs.read_unit.Tie as tie
 

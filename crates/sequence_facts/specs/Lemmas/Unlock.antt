@@ -6,7 +6,7 @@ use Prim.Native.Nat.{ℕ, _-_}
 use native.Mathlib.Omega.{arith}
 use borrow.Author.Tests.{eq-eqb, ne-eqb, eqb-true, eqb-false, ltb-true, not-true, not-false}
 use lib.Dec.{eqb, ltb}
-use lib.ListN.{length, take}
+use lib.ListN.{length}
 use Rattle.buffer.specs.First.{pick}
 use Rattle.buffer.specs.Byte.{isDigit, every, sameText, numeral}
 use Rattle.buffer.proofs.Laws.{within-true, within-in, same-lengths}
@@ -77,7 +77,7 @@ letter-c : (d : List ℕ) → asksUnlock (askV1 99 d) ≡ sameText d (49 ∷ [])
 unfolding askV1 asksUnlock unlocks pick
 letter-c d = each′ (sixDigits d) refl
   where
-    each′ : (b : Bool) → sixDigits d ≡ b → asksUnlock (pick b (Asks (SetFactor (numeral (take 6 d)))) (oneOf d Unlock)) ≡ sameText d (49 ∷ [])
+    each′ : (b : Bool) → sixDigits d ≡ b → asksUnlock (pick b (Asks (SetFactor (numeral d))) (oneOf d Unlock)) ≡ sameText d (49 ∷ [])
     each′ true e = six-other d e
     each′ false e = one-digit d
 
@@ -88,7 +88,7 @@ other-letter l d e =
     (λ _. each Other (eqb l 67) _ _ (λ _. digit-other (digitData 9 d) ReadFactor refl)
     (λ _. each Other (eqb l 99) _ _ (λ t. absurd (true≢false (sym t ∙ e)))
     (λ _. each Other (eqb l 85) _ _ (λ _. bare-other d ReadUnit refl)
-    (λ _. each Other (eqb l 117) _ _ (λ _. each Other (sixDigits d) _ _ (λ _. unit-other (numeral (take 6 d))) (λ _. refl)) (λ _. refl)))))
+    (λ _. each Other (eqb l 117) _ _ (λ _. each Other (sixDigits d) _ _ (λ _. unit-other (numeral d)) (λ _. refl)) (λ _. refl)))))
 
 pub unlock-is : (l : ℕ) (d : List ℕ) → asksUnlock (askV1 l d) ≡ (eqb l 99 && sameText d (49 ∷ []))
 unlock-is l d =

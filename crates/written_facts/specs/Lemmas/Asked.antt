@@ -5,7 +5,7 @@ use mathlib.Core.List.{List, [], _∷_}
 use Prim.Native.Nat.{ℕ, _+_, _*_, _/_, _%_, _<_, _≤_}
 use native.Mathlib.Omega.{arith}
 use lib.Dec.{eqb}
-use lib.ListN.{length, take}
+use lib.ListN.{length}
 use Rattle.buffer.specs.First.{pick}
 use Rattle.buffer.specs.Byte.{at, within, every, isDigit, sameText, untilOf, numeralFrom, numeral, digit, digits3}
 use Rattle.buffer.specs.Quoted.{bytes}
@@ -112,7 +112,7 @@ three x h = omega arith
 low-three : (x : ℕ) → x / 100 % 10 * 100 + x / 10 % 10 * 10 + x % 10 ≡ x % 1000
 low-three x = omega arith
 
-six-spells : (n : ℕ) → n < 1000000 → numeral (take 6 (digits6 n)) ≡ n
+six-spells : (n : ℕ) → n < 1000000 → numeral (digits6 n) ≡ n
 unfolding numeralFrom
 six-spells n h =
     let a = three (n / 1000) (omega arith) in

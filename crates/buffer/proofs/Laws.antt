@@ -6,7 +6,7 @@ use Prim.Native.Nat.{ℕ, zero, suc, _+_, _-_, _*_, _^_, _<_, _≤_}
 use native.Mathlib.Nat.{add-zero, zero-add, add-suc, suc-add, pow-suc, pow-le-pow-right, sub-zero, zero-sub, suc-sub-suc}
 use native.Mathlib.Numerals.{add-one}
 use native.Mathlib.Omega.{arith}
-use borrow.Author.Tests.{le-leb, lt-leb, leb-true}
+use borrow.Author.Tests.{le-leb, lt-leb, leb-true, eq-eqb, eqb-true}
 use lib.Dec.{eqb, leb}
 use lib.ListN.{length, getD, set, drop, take, length-take, length-drop, drop-of-length-le, length-append}
 use lib.Seq.{sets, sets-eq, drop-cons, take-at, take-all, set-out, take-nil, take-suc-set}
@@ -109,6 +109,21 @@ same-lengths [] [] h = absurd (h refl)
 same-lengths [] (y ∷ t) h = refl
 same-lengths (x ∷ s) [] h = refl
 same-lengths (x ∷ s) (y ∷ t) h = rw (same-lengths s t (λ (e : length s ≡ length t). h (ap suc e)))
+
+-- a text is the same as itself, and as no other
+pub same-self : (s : List ℕ) → sameText s s ≡ true
+unfolding sameText
+same-self [] = refl
+same-self (x ∷ s) = rw (same-self s, eq-eqb x x refl)
+
+pub same-equal : (s t : List ℕ) → sameText s t ≡ true → s ≡ t
+unfolding sameText
+same-equal [] [] e = refl
+same-equal [] (y ∷ t) e = absurd (let z : _≡_ {A = ℕ} 0 1 = cc in omega arith)
+same-equal (x ∷ s) [] e = absurd (let z : _≡_ {A = ℕ} 0 1 = cc in omega arith)
+same-equal (x ∷ s) (y ∷ t) e =
+    let w = and-eq-true-iff (sameText s t) (eqb x y) .0 e in
+    cc (same-equal s t (w .0), eqb-true x y (w .1))
 
 pub same-step : (s t : List ℕ) (i : ℕ) → i < length s → i < length t → sameText (drop i s) (drop i t) ≡ (sameText (drop (i + 1) s) (drop (i + 1) t) && eqb (getD s i 0) (getD t i 0))
 unfolding sameText

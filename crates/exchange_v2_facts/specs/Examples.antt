@@ -4,7 +4,7 @@ use mathlib.Core.Bool.{false}
 use mathlib.Core.List.{[]}
 use native.Mathlib.Omega.{arith}
 use Rattle.buffer.specs.First.{pick}
-use Rattle.buffer.specs.Byte.{within, every}
+use Rattle.buffer.specs.Byte.{within, every, sameText}
 use Rattle.buffer.specs.Quoted.{bytes}
 use Rattle.frame_writer.specs.Written.{frameV2}
 use Rattle.frame_writer.specs.Error.{errorOf}
@@ -13,7 +13,7 @@ use Rattle.frames_facts.specs.ReadBack.{read-back-v2}
 use Rattle.settings.specs.declared.Key.the-variants.{C1}
 use Rattle.settings.specs.declared.Setting.the-variants.{Factor, Cathode}
 use Rattle.readings.specs.Reading.{isFaulty}
-use Rattle.requests.specs.Command.{commandOf, commandText, isAccess, lacksAccess}
+use Rattle.requests.specs.Command.{commandOf, findCommand, commandText, isAccess, lacksAccess}
 use Rattle.requests.specs.AskV2.{askKnown, askNamed, askV2}
 use Rattle.requests.specs.declared.Command.the-variants.{MV, Of}
 use Rattle.requests.specs.declared.RequestV2.the-variants as request
@@ -42,7 +42,7 @@ cathode-expected = refl
 
 -- the bytes of a request for MV ask for it
 asks-pressure : AskedBy 1 (request.Read MV) (frameV2 (headFor 1 (request.Read MV)) [])
-unfolding headFor accessOf commandIn commandText bytes within every askV2 askNamed askKnown isAccess lacksAccess commandOf pick
+unfolding headFor accessOf commandIn commandText bytes within every askV2 askNamed askKnown isAccess lacksAccess commandOf findCommand sameText pick
 asks-pressure =
     let w = read-back-v2 (headFor 1 (request.Read MV)) [] (record { address-in = refl; access-in = refl; first-in = refl; second-in = refl; bytes-in = refl; few = omega arith }) in
     record { frame = w .head; asks = rw (w .rest) }

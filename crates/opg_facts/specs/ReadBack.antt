@@ -5,12 +5,13 @@ use mathlib.Core.List.{List, [], _∷_}
 use Prim.Native.Nat.{ℕ, _+_, _-_, _*_, _/_, _%_, _<_}
 use native.Mathlib.Nat.{div-div-eq-div-mul}
 use native.Mathlib.Omega.{arith}
-use borrow.Author.Tests.{eq-eqb, ltb-true}
+use borrow.Author.Tests.{ltb-true}
 use lib.Dec.{ltb}
 use lib.ListN.{length, drop, length-append}
 use lib.Seq.{take-at, drop-at}
 use Rattle.buffer.specs.First.{pick}
-use Rattle.buffer.specs.Byte.{within, sameText}
+use Rattle.buffer.specs.Byte.{within}
+use Rattle.buffer.proofs.Laws.{same-self}
 use Rattle.opg_frames.specs.Frame.{addressOf, idOf, versionOf, reservedOf, acknowledgeOf, lenOf, cmdOf, pidOf, idxOf, countOf, body, crcBytes, misshapen, foreign, wrongCrc, wrongVersion, acknowledges, indexed}
 use Rattle.opg_frame_writer.specs.Written.{sealed, frame}
 use Rattle.opg_commands.specs.Request.{word, requestPid, requestCmd, requestData, outsideOf}
@@ -21,11 +22,6 @@ use Rattle.opg_requests.specs.declared.Asked.the-variants.{Accepted}
 use Rattle.opg_master.specs.Written.{requestBytesOf}
 
 -- ---- the CRC
-
-same-self : (s : List ℕ) → sameText s s ≡ true
-unfolding sameText
-same-self [] = refl
-same-self (x ∷ s) = rw (same-self s) (eq-eqb x x refl)
 
 -- bytes that were sealed have their CRC
 module _ (b : List ℕ) where

@@ -1,38 +1,16 @@
 -- The commands of V2 and the column "Access". Assumes nothing.
 use mathlib.Core.Bool.{Bool, true, false, not, _||_}
 use mathlib.Core.List.{List, [], _∷_}
-use Prim.Native.Nat.{ℕ, _+_, _*_}
+use Prim.Native.Nat.{ℕ}
 use lib.Dec.{eqb}
-use Rattle.buffer.specs.First.{_⇒_, first}
+use Rattle.buffer.specs.First.{_⇒_, first, pick}
+use Rattle.buffer.specs.Byte.{sameText}
 use Rattle.buffer.specs.Quoted.{bytes}
 use Rattle.settings.specs.declared.Key.the-variants.{DA, DU, C1, CM, CC, FC, ST, SM}
 use Rattle.requests.specs.declared.Command.{Command}
 use Rattle.requests.specs.declared.Command.the-variants.{MV, T2, FN, FS, Of}
 use Rattle.requests.specs.declared.Named.{Named}
 use Rattle.requests.specs.declared.Named.the-variants.{Known, Unknown}
-
--- two bytes as one number
-abbrev pub two : ℕ → ℕ → ℕ
-two a b = a * 256 + b
-
--- the column "CMD". "Commands not named here are unknown."
-unfoldable pub commandOf : ℕ → ℕ → Named
-commandOf a b =
-    first
-    (eqb (two a b) (two 77 86) ⇒ Known MV
-    ∷ eqb (two a b) (two 84 50) ⇒ Known T2
-    ∷ eqb (two a b) (two 70 78) ⇒ Known FN
-    ∷ eqb (two a b) (two 70 83) ⇒ Known FS
-    ∷ eqb (two a b) (two 68 65) ⇒ Known (Of DA)
-    ∷ eqb (two a b) (two 68 85) ⇒ Known (Of DU)
-    ∷ eqb (two a b) (two 67 49) ⇒ Known (Of C1)
-    ∷ eqb (two a b) (two 67 77) ⇒ Known (Of CM)
-    ∷ eqb (two a b) (two 67 67) ⇒ Known (Of CC)
-    ∷ eqb (two a b) (two 70 67) ⇒ Known (Of FC)
-    ∷ eqb (two a b) (two 83 84) ⇒ Known (Of ST)
-    ∷ eqb (two a b) (two 83 77) ⇒ Known (Of SM)
-    ∷ [])
-    Unknown
 
 -- the two characters of a command
 unfoldable pub commandText : Command → List ℕ
@@ -48,6 +26,19 @@ commandText (Of CC) = bytes "CC"
 commandText (Of FC) = bytes "FC"
 commandText (Of ST) = bytes "ST"
 commandText (Of SM) = bytes "SM"
+
+-- the column "CMD"
+abbrev pub commands : List Command
+commands = MV ∷ T2 ∷ FN ∷ FS ∷ Of DA ∷ Of DU ∷ Of C1 ∷ Of CM ∷ Of CC ∷ Of FC ∷ Of ST ∷ Of SM ∷ []
+
+-- the first of these commands whose text it is
+unfoldable pub findCommand : List Command → List ℕ → Named
+findCommand [] t = Unknown
+findCommand (c ∷ cs) t = pick (sameText t (commandText c)) (Known c) (findCommand cs t)
+
+-- the command that two bytes name. "Commands not named here are unknown."
+unfoldable pub commandOf : ℕ → ℕ → Named
+commandOf a b = findCommand commands (a ∷ b ∷ [])
 
 -- "read 0", "write 2", "factory default 4", as characters
 abbrev pub readCode : ℕ

@@ -21,7 +21,7 @@ use Rattle.settings.specs.declared.Setting.the-variants.{Address, PressureIn, F
 use Rattle.forms.specs.Forms.{addressData, unitData, factorIn, factorOf, digitData, digitOf, limitedOf, directOf, betweenOf, endsOf, transitionOf, transitionData, idleList, knownMode, streamOf, streamData}
 use Rattle.forms.specs.Judged.{verdictOf, ifSet, listIn}
 use Rattle.frames.specs.declared.HeadV2.{HeadV2}
-use Rattle.requests.specs.Command.{commandOf, isAccess, canWrite, canRestore, lacksAccess}
+use Rattle.requests.specs.Command.{commandOf, commandText, findCommand, isAccess, canWrite, canRestore, lacksAccess}
 use Rattle.requests.specs.AskV2.{setOf, writeOf, askKnown, askNamed, askV2, writeList, namedList, askList}
 use Rattle.requests.specs.AskV1.{sixDigits, bareOf, digitOne, oneOf, unitAt, askV1}
 use Rattle.requests.specs.declared.Command.{Command}
@@ -68,7 +68,7 @@ known r = Known (r .command)
 
 -- each text names its command
 pub all-named : map named table ≡ map known table
-unfolding bytes commandOf pick
+unfolding bytes commandOf findCommand commandText sameText pick
 all-named = refl
 
 -- ---- V2: access code and command, the data, and what is asked
@@ -143,7 +143,7 @@ abbrev pub paperV2 : CaseV2 → Given
 paperV2 c = record { ask = c .ask; list = c .list }
 
 pub all-v2 : map askedV2 casesV2 ≡ map paperV2 casesV2
-unfolding bytes askV2 askNamed askKnown setOf writeOf askList namedList writeList commandOf isAccess canWrite canRestore lacksAccess verdictOf ifSet listIn addressData unitData factorIn factorOf digitData digitOf limitedOf directOf betweenOf endsOf transitionOf transitionData idleList knownMode streamOf streamData numberOf answerOf scanOf unsignedOf fractionOf exponentOf powerOf leading startsWith normalOf sizeOf units plus minus belowOf countedOf hundredthsOf sourceText isSource findSource sourceOf onto parts sourceTexts entriesOf opens entriesNumber entriesList unitText within every sameText untilOf numeralFrom pick
+unfolding bytes askV2 askNamed askKnown setOf writeOf askList namedList writeList commandOf findCommand commandText isAccess canWrite canRestore lacksAccess verdictOf ifSet listIn addressData unitData factorIn factorOf digitData digitOf limitedOf directOf betweenOf endsOf transitionOf transitionData idleList knownMode streamOf streamData numberOf answerOf scanOf unsignedOf fractionOf exponentOf powerOf leading startsWith normalOf sizeOf units plus minus belowOf countedOf hundredthsOf sourceText isSource findSource sourceOf onto parts sourceTexts entriesOf opens entriesNumber entriesList unitText within every sameText untilOf numeralFrom pick
 all-v2 = refl
 
 -- ---- V1: letter, data, and what is asked

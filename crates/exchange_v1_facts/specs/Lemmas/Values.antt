@@ -5,12 +5,12 @@ use mathlib.Core.List.{List, [], _∷_}
 use mathlib.Core.Logic.{inl, inr}
 use Prim.Native.Nat.{ℕ, _+_, _*_, _/_, _%_, _<_, _≤_}
 use native.Mathlib.Omega.{arith}
-use borrow.Author.Tests.{eq-eqb, ne-eqb, eqb-true, eqb-false, le-ltb, lt-leb}
+use borrow.Author.Tests.{ne-eqb, eqb-true, eqb-false, le-ltb, lt-leb}
 use lib.Dec.{eqb}
 use lib.ListN.{length, take, drop}
 use Rattle.buffer.specs.First.{pick}
 use Rattle.buffer.specs.Byte.{within, isDigit, every, sameText, numeralFrom, numeral, digit}
-use Rattle.buffer.proofs.Laws.{within-in}
+use Rattle.buffer.proofs.Laws.{within-in, same-self}
 use Rattle.buffer.proofs.Rules.{each}
 use Rattle.frame_writer.specs.declared.ErrorText.the-variants.{Error1}
 use Rattle.decimal.specs.Exact.{units}
@@ -47,11 +47,6 @@ unfolding every sixOf
 six-of-are q e = rw (digit-is (q / 1000), digit-is (q / 100), digit-is (q / 10), digit-is q, digit-is (e / 10), digit-is e)
 
 -- ---- a set's reply
-
-same-self : (s : List ℕ) → sameText s s ≡ true
-unfolding sameText
-same-self [] = refl
-same-self (x ∷ s) = rw (same-self s, eq-eqb x x refl)
 
 pub echo-held : (r : RequestV1) → echoV1 r (dataV1 r) ≡ Read Done
 unfolding echoV1 pick

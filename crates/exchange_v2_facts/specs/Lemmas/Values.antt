@@ -7,7 +7,7 @@ use native.Mathlib.Omega.{arith}
 use borrow.Author.Tests.{le-ltb}
 use Rattle.buffer.specs.First.{pick}
 use Rattle.buffer.specs.Byte.{within, sameText, numeralFrom, digit}
-use Rattle.buffer.proofs.Laws.{within-true}
+use Rattle.buffer.proofs.Laws.{within-true, same-equal}
 use Rattle.buffer.proofs.Rules.{each}
 use Rattle.decimal.specs.Exact.{units, sizeOf, normalOf, zeroNumber}
 use Rattle.decimal.specs.Form.{leading, startsWith, exponentOf, fractionOf, unsignedOf, scanOf, answerOf, numberOf}
@@ -38,7 +38,6 @@ use Rattle.forms.specs.declared.Verdict.the-variants as verdict
 use Rattle.forms_facts.specs.Sound.{SoundSettings}
 use Rattle.forms_facts.specs.Digit.{digit-exactly}
 use Rattle.forms_facts.specs.Read.{valueOf, read-again, list-read-again}
-use Rattle.forms_facts.specs.Lemmas.Lists.{same-equal}
 use Rattle.forms_facts.specs.Lemmas.Texts.{none-number}
 use Rattle.gauge_rules.specs.RulesV2.{filamentOf}
 use Rattle.replies_v2_values.specs.Value.{measuredReply, pressureReply, degreesReply, temperatureReply, filamentReply, statusReply, heldReply, bothEnds, transitionReply, settingReply}

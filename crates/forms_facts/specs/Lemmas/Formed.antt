@@ -11,7 +11,7 @@ use lib.Seq.{take-at, drop-append-add}
 use Rattle.buffer.specs.First.{pick}
 use Rattle.buffer.specs.Byte.{within, isDigit, every, sameText, untilOf, numeralFrom, numeral, digit, digits3}
 use Rattle.buffer.proofs.Rules.{each}
-use Rattle.buffer.proofs.Laws.{within-true, within-in}
+use Rattle.buffer.proofs.Laws.{within-true, within-in, same-equal}
 use Rattle.decimal.specs.Form.{leading, startsWith, numberOf}
 use Rattle.decimal.specs.Number.{belowOf, hundredthsOf}
 use Rattle.decimal.proofs.Laws.{starts-some}
@@ -47,7 +47,7 @@ use Rattle.forms_facts.specs.Digit.{digit-exactly}
 use Rattle.forms_facts.specs.Sound.{InLimits, Sound}
 use Rattle.forms_facts.specs.Again.{sent-as-accepted}
 use Rattle.forms_facts.specs.Lemmas.Lacks.{split, until-lacks, until-split}
-use Rattle.forms_facts.specs.Lemmas.Lists.{same-equal, entries-short}
+use Rattle.forms_facts.specs.Lemmas.Lists.{entries-short}
 use Rattle.forms_facts.specs.Lemmas.Numbers.{read-lacks, hundredths-of, of-hundredths}
 use Rattle.forms_facts.specs.Lemmas.Texts.{none-number, list-number}
 use Rattle.forms_facts.specs.Form.{Form}

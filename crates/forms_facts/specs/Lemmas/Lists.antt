@@ -1,6 +1,6 @@
 -- Lists of sources and their texts. Assumes nothing.
 use mathlib.Core.Path.{_≡_, refl, _∙_}
-use mathlib.Core.Bool.{Bool, true, false, cond, not, _&&_, or-true, and-eq-true-iff}
+use mathlib.Core.Bool.{Bool, true, false, cond, not, _&&_, or-true}
 use mathlib.Core.List.{List, [], _∷_, _++_, map}
 use Prim.Native.Nat.{ℕ, _≤_}
 use native.Mathlib.Omega.{arith}
@@ -9,23 +9,13 @@ use lib.Dec.{eqb, ltb, eqb·suc-zero}
 use lib.ListN.{length, length-map}
 use Rattle.buffer.specs.First.{pick}
 use Rattle.buffer.specs.Byte.{every, sameText}
+use Rattle.buffer.proofs.Laws.{same-equal}
 use Rattle.buffer.proofs.Rules.{each}
 use Rattle.sources.specs.Source.{sourceText, isSource, findSource, sourceOf, knownSources, mostEntries, listText, among}
 use Rattle.sources.specs.Entries.{onto, parts, sourceTexts, entriesOf, isFormed, isKnown, codeOf, opens, entriesNumber, entriesList}
 use Rattle.sources.specs.declared.Source.{Source}
 use Rattle.sources.specs.declared.Source.the-variants.{Known, Unknown, Malformed}
 use Rattle.forms_facts.specs.Codes.{Short}
-
--- ---- two texts
-
-pub same-equal : (s t : List ℕ) → sameText s t ≡ true → s ≡ t
-unfolding sameText
-same-equal [] [] e = refl
-same-equal [] (y ∷ t) e = absurd (let z : _≡_ {A = ℕ} 0 1 = cc in omega arith)
-same-equal (x ∷ s) [] e = absurd (let z : _≡_ {A = ℕ} 0 1 = cc in omega arith)
-same-equal (x ∷ s) (y ∷ t) e =
-    let w = and-eq-true-iff (sameText s t) (eqb x y) .0 e in
-    cc (same-equal s t (w .0), eqb-true x y (w .1))
 
 -- ---- the source of a text
 

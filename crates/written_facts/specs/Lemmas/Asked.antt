@@ -27,7 +27,7 @@ use Rattle.forms.specs.declared.Verdict.the-variants as verdict
 use Rattle.forms_facts.specs.Sound.{Sound}
 use Rattle.forms_facts.specs.Kept.{factory-sound, put-sound}
 use Rattle.forms_facts.specs.Read.{read-again, list-read-again}
-use Rattle.requests.specs.Command.{commandOf, commandText, writeCode, restoreCode, isAccess, canWrite, canRestore, lacksAccess}
+use Rattle.requests.specs.Command.{commandOf, findCommand, commandText, writeCode, restoreCode, isAccess, canWrite, canRestore, lacksAccess}
 use Rattle.requests.specs.AskV2.{setOf, writeOf, askKnown, askNamed, askV2, writeList, namedList, askList}
 use Rattle.requests.specs.AskV1.{sixDigits, bareOf, digitOne, oneOf, unitAt, askV1}
 use Rattle.requests.specs.declared.Command.{Command}
@@ -45,7 +45,7 @@ use Rattle.written_facts.specs.Lemmas.Typed.{ListFits}
 
 -- a command's two characters name it
 pub named : (c : Command) → commandOf (at (commandText c) 0) (at (commandText c) 1) ≡ Known c
-unfolding commandOf commandText bytes pick
+unfolding commandOf findCommand sameText commandText bytes pick
 named MV = refl
 named T2 = refl
 named FN = refl

@@ -37,7 +37,7 @@ use Rattle.requests.specs.Command.{commandOf, commandText, findCommand, isAcces
 use Rattle.requests.specs.declared.Command.the-variants.{FS, Of}
 use Rattle.line.specs.Line.{valueOf, valuesOf, tailOf, joined, lineAnswer}
 use Rattle.request_texts.specs.RequestText.{unitCode}
-use Rattle.gauge_rules_v1.specs.RulesV1.{textV1, repeats, unlocks, enterFactor, enterV1}
+use Rattle.gauge_rules_v1.specs.RulesV1.{textV1, repeats, unlocks, enterV1}
 use Rattle.gauge_rules.specs.RulesV2.{filamentOf, changesCathode, readsFaulty, sentText, textV2, answerCode, enterV2}
 use Rattle.gauge_rules.specs.State.{State, fresh}
 use Rattle.gauge_table.specs.After.{answerOf as tableAnswer, enteredV2, enteredV1, asksUnlock, afterwards, nextOf, benched}
@@ -407,5 +407,5 @@ courses = unlocking ∷ lastWins ∷ cathode ∷ longest ∷ faulty ∷ refusedB
 
 -- each call gets the paper's number and reply; each sequence has the paper's answers, and the gauge then holds what the paper says
 pub all-right : (map given cases ≡ map paper cases) × (map run courses ≡ courses)
-unfolding bytes within every sameText untilOf numeralFrom pick sumOf checksumOf endOf closed isLetter lengthFits misshapen wrongSum wrongAddress wrongLength headV1 headV2 frameV1 frameV2 errorOf errorBytes errorHeadV2 errorHeadV1 errorLetterV1 errorDataV1 numberOf answerOf scanOf unsignedOf fractionOf exponentOf powerOf leading startsWith normalOf sizeOf units plus minus belowOf countedOf hundredthsOf writtenOf signText trimmed pointed exponentText wholeText twoDecimals sourceText isSource findSource sourceOf listText onto parts sourceTexts entriesOf opens entriesNumber entriesList factoryOf putOf restoreOf unitText transitionText streamText readText widthOf widest longestLine putReading pressureText temperatureText valueText isFaulty isFailed sixOf roundedText measureText takes pressureAt temperatureAt pressureOf degreesOf temperatureOf benchOf addressData unitData factorIn factorOf digitData digitOf limitedOf directOf betweenOf endsOf transitionOf transitionData idleList knownMode streamOf streamData verdictOf ifSet listIn commandOf findCommand commandText isAccess canWrite canRestore lacksAccess setOf writeOf askKnown askNamed askV2 writeList namedList askList sixDigits bareOf digitOne oneOf unitAt askV1 filamentOf changesCathode readsFaulty sentText textV2 answerCode enterV2 unitCode textV1 repeats unlocks enterFactor enterV1 unknownCommand lacks dataNumber badFormV2 outsideV2 endsWrong breaksRule asksFaulty unknownLetter badFormV1 lockedWrite outsideV1 measuresFaulty tableNumber acceptedV2 acceptedV1 replyOf tableAnswer enteredV2 enteredV1 asksUnlock afterwards nextOf benched valueOf valuesOf tailOf joined lineAnswer following played ended
+unfolding bytes within every sameText untilOf numeralFrom pick sumOf checksumOf endOf closed isLetter lengthFits misshapen wrongSum wrongAddress wrongLength headV1 headV2 frameV1 frameV2 errorOf errorBytes errorHeadV2 errorHeadV1 errorLetterV1 errorDataV1 numberOf answerOf scanOf unsignedOf fractionOf exponentOf powerOf leading startsWith normalOf sizeOf units plus minus belowOf countedOf hundredthsOf writtenOf signText trimmed pointed exponentText wholeText twoDecimals sourceText isSource findSource sourceOf listText onto parts sourceTexts entriesOf opens entriesNumber entriesList factoryOf putOf restoreOf unitText transitionText streamText readText widthOf widest longestLine putReading pressureText temperatureText valueText isFaulty isFailed sixOf roundedText measureText takes pressureAt temperatureAt pressureOf degreesOf temperatureOf benchOf addressData unitData factorIn factorOf digitData digitOf limitedOf directOf betweenOf endsOf transitionOf transitionData idleList knownMode streamOf streamData verdictOf ifSet listIn commandOf findCommand commandText isAccess canWrite canRestore lacksAccess setOf writeOf askKnown askNamed askV2 writeList namedList askList sixDigits bareOf digitOne oneOf unitAt askV1 filamentOf changesCathode readsFaulty sentText textV2 answerCode enterV2 unitCode textV1 repeats unlocks enterV1 unknownCommand lacks dataNumber badFormV2 outsideV2 endsWrong breaksRule asksFaulty unknownLetter badFormV1 lockedWrite outsideV1 measuresFaulty tableNumber acceptedV2 acceptedV1 replyOf tableAnswer enteredV2 enteredV1 asksUnlock afterwards nextOf benched valueOf valuesOf tailOf joined lineAnswer following played ended
 all-right = (refl, refl)

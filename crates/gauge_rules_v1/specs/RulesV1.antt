@@ -3,7 +3,7 @@
 use mathlib.Core.Bool.{Bool, true, false, not}
 use mathlib.Core.List.{List, [], _∷_}
 use Prim.Native.Nat.{ℕ}
-use lib.Dec.{ltb}
+use lib.Dec.{eqb}
 use Rattle.buffer.specs.First.{_⇒_, first}
 use Rattle.buffer.specs.Byte.{within}
 use Rattle.settings.specs.Limits.{standard}
@@ -59,15 +59,15 @@ unlocks (SetFactor n) = false
 unlocks ReadUnit = false
 unlocks (SetUnit u) = false
 
--- a number above the limit, which is never accepted, enters nothing
-unfoldable pub enterFactor : Held → ℕ → Held
-enterFactor h n = first (ltb (standard .factorHigh) n ⇒ h ∷ []) (putOf h (Factor n) [])
-
 -- what an accepted request enters
 unfoldable pub enterV1 : Held → RequestV1 → Held
 enterV1 h Measure = h
 enterV1 h ReadFactor = h
 enterV1 h Unlock = h
-enterV1 h (SetFactor n) = enterFactor h n
+enterV1 h (SetFactor n) = putOf h (Factor n) []
 enterV1 h ReadUnit = h
 enterV1 h (SetUnit u) = putOf h (PressureIn u) []
+
+-- the settings after a request: what it enters if it is accepted, as they were if it is refused
+unfoldable pub settingsV1 : State → RequestV1 → Held
+settingsV1 g r = first (eqb (grantV1 g r) 0 ⇒ enterV1 (g .settings) r ∷ []) (g .settings)

@@ -1,9 +1,13 @@
 // The rules by which typed V1 requests are decided and entered (document 01, "V1 on the same settings").
 ghost use mathlib.Core.Path.{_≡_};
+ghost use mathlib.Core.List.{[], _∷_};
+ghost use lib.Dec.{eqb};
+ghost use Rattle.buffer.specs.First.{_⇒_, first};
 ghost use Rattle.buffer.specs.Text.{textOf};
-ghost use Rattle.settings.specs.Settings.{held};
+ghost use Rattle.settings.specs.Settings.{held, putOf};
+ghost use Rattle.settings.specs.declared.Setting.{Setting};
 ghost use Rattle.gauge_rules.specs.State.{stateOf};
-ghost use Rattle.gauge_rules_v1.specs.RulesV1.{factorNumber, enterFactor, grantV1, textV1, repeats, unlocks, enterV1};
+ghost use Rattle.gauge_rules_v1.specs.RulesV1.{factorNumber, grantV1, textV1, repeats, unlocks, settingsV1};
 
 // The number of a `c` with six digits.
 fn factor_number(unlocked: bool, n: u32) -> u8
@@ -88,26 +92,27 @@ pub fn unlocks_gauge(request: requests::RequestV1) -> bool
     }
 }
 
-// A factor entered, where it is one.
-fn enter_factor(s: settings::Settings, n: u32) -> settings::Settings
-    ensures { λ r. ⌜ held r ≡ enterFactor (held s) n ⌝ }
+// The settings after a `c` with six digits.
+fn enter_factor(s: settings::Settings, unlocked: bool, n: u32) -> settings::Settings
+    ensures { λ r. ⌜ held r ≡ first (eqb (factorNumber unlocked n) 0 ⇒ putOf (held s) (Setting.Factor n) [] ∷ []) (held s) ⌝ }
 {
-    if (settings::Settings::FACTOR_MAX as u32) < n {
+    if factor_number(unlocked, n) != 0 {
         return s;
     }
     s.with(settings::Setting::Factor(n as u16), sources::Sources::NONE)
 }
 
-// The settings after an accepted V1 request.
-pub fn enter_v1(s: settings::Settings, request: requests::RequestV1) -> settings::Settings
-    ensures { λ r. ⌜ held r ≡ enterV1 (held s) request ⌝ }
+// The settings after a V1 request: an accepted one enters, a refused one changes nothing.
+pub fn enter_v1(g: gauge_rules::Gauge, request: requests::RequestV1) -> settings::Settings
+    ensures { λ r. ⌜ held r ≡ settingsV1 (stateOf g) request ⌝ }
 {
+    let s = g.settings;
     match request {
         requests::RequestV1::Measure => s,
         requests::RequestV1::ReadFactor => s,
         requests::RequestV1::ReadUnit => s,
         requests::RequestV1::Unlock => s,
-        requests::RequestV1::SetFactor(n) => enter_factor(s, n),
+        requests::RequestV1::SetFactor(n) => enter_factor(s, g.unlocked, n),
         requests::RequestV1::SetUnit(unit) => s.with(
             settings::Setting::PressureIn(unit),
             sources::Sources::NONE,

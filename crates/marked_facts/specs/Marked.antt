@@ -44,7 +44,7 @@ use Rattle.replies_v1.specs.ReplyV1.{pressureV1, measureV1, factorV1, echoV1, u
 use Rattle.replies_v2_values.specs.Value.{heldReply, settingReply, valueReply}
 use Rattle.replies_v2.specs.ReplyV2.{notV2, otherAccess, otherCommand, mismatched, dataReply, bodyReply, readV2, readShownV2}
 use Rattle.line.specs.Line.{valueOf, valuesOf, tailOf, joined, lineAnswer}
-use Rattle.gauge_rules_v1.specs.RulesV1.{textV1, repeats, unlocks, enterFactor, enterV1}
+use Rattle.gauge_rules_v1.specs.RulesV1.{textV1, repeats, unlocks, enterV1}
 use Rattle.gauge_rules.specs.RulesV2.{filamentOf, changesCathode, readsFaulty, sentText, textV2, answerCode, enterV2}
 use Rattle.gauge_rules.specs.State.{fresh}
 use Rattle.gauge_table.specs.After.{answerOf as tableAnswer, enteredV2, enteredV1, asksUnlock, afterwards, nextOf, benched}
@@ -133,5 +133,5 @@ abbrev pub right : Row → Bool
 right r = sameText (r .made (r .printed)) (r .meant)
 
 pub all-right : every right rows ≡ true
-unfolding bytes within every sameText untilOf numeralFrom pick sumOf checksumOf endOf closed isLetter lengthFits misshapen wrongSum wrongAddress wrongLength headV1 headV2 frameV1 frameV2 errorOf errorBytes errorHeadV2 errorHeadV1 errorLetterV1 errorDataV1 numberOf answerOf scanOf unsignedOf fractionOf exponentOf powerOf leading startsWith normalOf sizeOf units plus minus belowOf countedOf hundredthsOf writtenOf signText trimmed pointed exponentText wholeText twoDecimals sourceText isSource findSource sourceOf listText onto parts sourceTexts entriesOf opens entriesNumber entriesList factoryOf putOf restoreOf unitText transitionText streamText readText widthOf widest longestLine putReading pressureText temperatureText valueText isFaulty isFailed takes pressureAt temperatureAt pressureOf degreesOf temperatureOf benchOf addressData unitData factorIn factorOf digitData digitOf limitedOf directOf betweenOf endsOf transitionOf transitionData idleList knownMode streamOf streamData verdictOf ifSet listIn commandOf findCommand isAccess canWrite canRestore lacksAccess setOf writeOf askKnown askNamed askV2 writeList namedList askList sixDigits bareOf digitOne oneOf unitAt askV1 filamentOf changesCathode readsFaulty sentText textV2 answerCode enterV2 unitCode textV1 repeats unlocks enterFactor enterV1 unknownCommand lacks dataNumber badFormV2 outsideV2 endsWrong breaksRule asksFaulty unknownLetter badFormV1 lockedWrite outsideV1 measuresFaulty tableNumber acceptedV2 acceptedV1 replyOf tableAnswer enteredV2 enteredV1 asksUnlock afterwards nextOf benched valueOf valuesOf tailOf joined lineAnswer commandText accessOf commandIn dataV2 letterV1 dataV1 fromV2 judgedV1 fromV1 fromFrame requestOf pressureV1 measureV1 factorV1 one.unitAt unitV1 echoV1 valueV1 notV1 otherAddress otherLetter errorAt readV1 readShownV1 heldReply settingReply valueReply notV2 otherAccess otherCommand mismatched dataReply bodyReply readV2 readShownV2 hexOf crc.plus remainder digits number message crcFrom crcOf xor addressOf idOf versionOf reservedOf acknowledgeOf lenOf cmdOf pidOf idxOf countOf crcBytes opg.misshapen foreign wrongCrc wrongVersion acknowledges indexed requestPid requestCmd requestData replyCount outsideOf finite wrongShape unknownCmd unknownPid opgAsked.lacksAccess neededOf wrongCount meaning wrongMode outside askedOf isError otherReply R.neededOf R.wrongCount R.valueOf readingOf readingShown toBits ofBits frameOf
+unfolding bytes within every sameText untilOf numeralFrom pick sumOf checksumOf endOf closed isLetter lengthFits misshapen wrongSum wrongAddress wrongLength headV1 headV2 frameV1 frameV2 errorOf errorBytes errorHeadV2 errorHeadV1 errorLetterV1 errorDataV1 numberOf answerOf scanOf unsignedOf fractionOf exponentOf powerOf leading startsWith normalOf sizeOf units plus minus belowOf countedOf hundredthsOf writtenOf signText trimmed pointed exponentText wholeText twoDecimals sourceText isSource findSource sourceOf listText onto parts sourceTexts entriesOf opens entriesNumber entriesList factoryOf putOf restoreOf unitText transitionText streamText readText widthOf widest longestLine putReading pressureText temperatureText valueText isFaulty isFailed takes pressureAt temperatureAt pressureOf degreesOf temperatureOf benchOf addressData unitData factorIn factorOf digitData digitOf limitedOf directOf betweenOf endsOf transitionOf transitionData idleList knownMode streamOf streamData verdictOf ifSet listIn commandOf findCommand isAccess canWrite canRestore lacksAccess setOf writeOf askKnown askNamed askV2 writeList namedList askList sixDigits bareOf digitOne oneOf unitAt askV1 filamentOf changesCathode readsFaulty sentText textV2 answerCode enterV2 unitCode textV1 repeats unlocks enterV1 unknownCommand lacks dataNumber badFormV2 outsideV2 endsWrong breaksRule asksFaulty unknownLetter badFormV1 lockedWrite outsideV1 measuresFaulty tableNumber acceptedV2 acceptedV1 replyOf tableAnswer enteredV2 enteredV1 asksUnlock afterwards nextOf benched valueOf valuesOf tailOf joined lineAnswer commandText accessOf commandIn dataV2 letterV1 dataV1 fromV2 judgedV1 fromV1 fromFrame requestOf pressureV1 measureV1 factorV1 one.unitAt unitV1 echoV1 valueV1 notV1 otherAddress otherLetter errorAt readV1 readShownV1 heldReply settingReply valueReply notV2 otherAccess otherCommand mismatched dataReply bodyReply readV2 readShownV2 hexOf crc.plus remainder digits number message crcFrom crcOf xor addressOf idOf versionOf reservedOf acknowledgeOf lenOf cmdOf pidOf idxOf countOf crcBytes opg.misshapen foreign wrongCrc wrongVersion acknowledges indexed requestPid requestCmd requestData replyCount outsideOf finite wrongShape unknownCmd unknownPid opgAsked.lacksAccess neededOf wrongCount meaning wrongMode outside askedOf isError otherReply R.neededOf R.wrongCount R.valueOf readingOf readingShown toBits ofBits frameOf
 all-right = refl

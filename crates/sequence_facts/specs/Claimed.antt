@@ -5,17 +5,15 @@ use mathlib.Core.List.{List}
 use mathlib.Core.Option.{none, some}
 use Prim.Native.Nat.{ℕ, _≤_}
 use native.Mathlib.Omega.{arith}
-use borrow.Author.Tests.{le-ltb, not-false}
 use lib.Dec.{eqb}
 use lib.ListN.{length, length-map}
 use Rattle.buffer.specs.First.{pick}
 use Rattle.buffer.specs.Byte.{at, within}
 use Rattle.buffer.specs.Answer.{Answer, Sent}
 use Rattle.buffer.specs.declared.Written.{Written}
-use Rattle.buffer.proofs.Laws.{within-true}
 use Rattle.frames.specs.Frame.{dataFrom, headV2}
 use Rattle.sources.specs.Source.{mostEntries}
-use Rattle.settings.specs.Limits.{standard, longest-is}
+use Rattle.settings.specs.Limits.{longest-is}
 use Rattle.settings.specs.Settings.{Held, held, factory}
 use Rattle.settings.specs.declared.Key.{Key}
 use Rattle.readings.specs.Reading.{start}
@@ -25,54 +23,34 @@ use Rattle.readings.specs.declared.Benched.{Benched}
 use Rattle.readings.specs.declared.Benched.the-variants as bench
 use Rattle.readings_facts.specs.Place.{Place, readingAt}
 use Rattle.requests.specs.AskV2.{askList}
-use Rattle.requests.specs.declared.RequestV1.the-variants.{Measure, ReadFactor, Unlock, SetFactor, ReadUnit, SetUnit}
-use Rattle.requests.specs.declared.AskV1.{AskV1}
-use Rattle.requests.specs.declared.AskV1.the-variants.{Asks, Denied}
 use Rattle.line.specs.Line.{valuesOf, lineAnswer}
 use Rattle.gauge_rules.specs.State.{State, stateOf}
 use Rattle.gauge_rules.specs.declared.Gauge.{Gauge}
-use Rattle.gauge_rules_v1.specs.RulesV1.{factorNumber, grantV1}
 use Rattle.gauge_table.specs.Asked.{isV1, askedV2, askedV1}
 use Rattle.gauge_table.specs.Table.{numberOf}
 use Rattle.gauge_table.specs.DecidedV2.{by}
-use Rattle.gauge_table.specs.DecidedV1.{decidedV1}
 use Rattle.gauge_table.specs.After.{answerOf, asksUnlock, afterwards, nextOf, benched}
-use Rattle.gauge_facts.specs.Kept.{SoundState, fresh-sound, next-sound, bench-sound, lower-below, decided}
+use Rattle.gauge_facts.specs.Kept.{SoundState, fresh-sound, next-sound, bench-sound, lower-below}
 use Rattle.gauge_facts.specs.Refused.{readings-stay}
-use Rattle.gauge_facts.specs.Lemmas.Rows.{past-row}
 use Rattle.gauge_facts.specs.Lengths.{within-lent}
 use Rattle.gauge_facts.specs.Line.{line-fits, line-within-lent}
 use Rattle.history.specs.Latest.{orElse, latest, follows}
 use Rattle.sequence_facts.specs.Model.{step, modelOf}
 use Rattle.sequence_facts.specs.Sequence.{asked, set, lined, History, model, Trace, begin, ask, tell, show, AllFixed, Claim, holding, writes, forKey, saysSetting, forPlace, saysReading, isUnlock, saysUnlock}
-use Rattle.sequence_facts.specs.Lemmas.Settings.{v2-says, v1-says, FactorIn}
+use Rattle.sequence_facts.specs.Lemmas.Settings.{v2-says, v1-says}
 use Rattle.sequence_facts.specs.Lemmas.Readings.{reading-says}
 use Rattle.sequence_facts.specs.Lemmas.Unlock.{unlock-is}
 
 -- ---- one request, on what the model holds
 
 module _ (m : State) (lent : ℕ) (s : List ℕ) where
-  -- an accepted factor is not above the limit
-  factor-in : (a : AskV1) → eqb (decidedV1 m a) 0 ≡ true → FactorIn a
-  unfolding decidedV1 grantV1 factorNumber
-  factor-in (Asks Measure) e = tt
-  factor-in (Asks ReadFactor) e = tt
-  factor-in (Asks Unlock) e = tt
-  factor-in (Asks (SetFactor n)) e =
-      let a = past-row (not (m .unlocked)) 12 _ refl e in
-      let b = past-row (not (within (standard .factorLow) (standard .factorHigh) n)) 11 0 refl (a .1) in
-      le-ltb 800 n (within-true (standard .factorLow) (standard .factorHigh) n (not-false _ (b .0)) .1)
-  factor-in (Asks ReadUnit) e = tt
-  factor-in (Asks (SetUnit u)) e = tt
-  factor-in (Denied k) e = tt
-
   -- each setting afterwards is what the request says of it, or what it was
   setting-next : (key : Key) → holding key (nextOf m lent s .settings) ≡ orElse (pick (eqb (numberOf m lent s) 0) (forKey key (writes s)) none) (holding key (m .settings))
   unfolding nextOf afterwards pick orElse writes
   setting-next key =
       by (eqb (numberOf m lent s) 0)
       (λ e. by (isV1 s)
-      (λ l. rw (e, l) (v1-says key (m .settings) (askedV1 s) (factor-in (askedV1 s) (rw (decided m lent s l e) at e))))
+      (λ l. rw (e, l) (v1-says key (m .settings) (askedV1 s)))
       (λ l. rw (e, l) (v2-says key (m .settings) (askedV2 s) (askList (headV2 s) (dataFrom 8 s)))))
       (λ e. rw e)
 

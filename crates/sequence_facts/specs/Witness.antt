@@ -32,7 +32,7 @@ use Rattle.requests.specs.AskV2.{setOf, writeOf, askKnown, askNamed, askV2, wri
 use Rattle.requests.specs.Command.{commandOf, commandText, findCommand, isAccess, canWrite, canRestore, lacksAccess}
 use Rattle.line.specs.Line.{valueOf, valuesOf, tailOf, joined, lineAnswer}
 use Rattle.request_texts.specs.RequestText.{unitCode}
-use Rattle.gauge_rules_v1.specs.RulesV1.{textV1, repeats, unlocks, enterFactor, enterV1}
+use Rattle.gauge_rules_v1.specs.RulesV1.{textV1, repeats, unlocks, enterV1}
 use Rattle.gauge_rules.specs.RulesV2.{filamentOf, changesCathode, readsFaulty, sentText, textV2, answerCode, enterV2}
 use Rattle.gauge_table.specs.After.{answerOf as tableAnswer, enteredV2, enteredV1, asksUnlock, afterwards, nextOf, benched}
 use Rattle.gauge_table.specs.Asked.{unknownCommand, lacks, dataNumber, badFormV2, outsideV2, endsWrong, breaksRule, asksFaulty, unknownLetter, badFormV1, lockedWrite, outsideV1, measuresFaulty}
@@ -196,5 +196,5 @@ pub record Reached (cs : List Call) : Type 0 where
   pub line-bytes : length (memoryOf (play cs)) ≡ 96
 
 pub reached : Reached longest
-unfolding play modelOf step over bytes within every sameText untilOf numeralFrom pick sumOf checksumOf endOf closed isLetter lengthFits misshapen wrongSum wrongAddress wrongLength headV1 headV2 frameV1 frameV2 errorOf errorBytes errorHeadV2 errorHeadV1 errorLetterV1 errorDataV1 numberOf answerOf scanOf unsignedOf fractionOf exponentOf powerOf leading startsWith normalOf sizeOf units plus minus belowOf countedOf hundredthsOf writtenOf signText trimmed pointed exponentText wholeText twoDecimals sourceText isSource findSource sourceOf listText onto parts sourceTexts entriesOf opens entriesNumber entriesList factoryOf putOf restoreOf unitText transitionText streamText readText widthOf widest longestLine putReading pressureText temperatureText valueText isFaulty isFailed sixOf roundedText measureText takes pressureAt temperatureAt pressureOf degreesOf temperatureOf benchOf addressData unitData factorIn factorOf digitData digitOf limitedOf directOf betweenOf endsOf transitionOf transitionData idleList knownMode streamOf streamData verdictOf ifSet listIn commandOf findCommand commandText isAccess canWrite canRestore lacksAccess setOf writeOf askKnown askNamed askV2 writeList namedList askList sixDigits bareOf digitOne oneOf unitAt askV1 filamentOf changesCathode readsFaulty sentText textV2 answerCode enterV2 unitCode textV1 repeats unlocks enterFactor enterV1 unknownCommand lacks dataNumber badFormV2 outsideV2 endsWrong breaksRule asksFaulty unknownLetter badFormV1 lockedWrite outsideV1 measuresFaulty tableNumber acceptedV2 acceptedV1 replyOf tableAnswer enteredV2 enteredV1 asksUnlock afterwards nextOf benched valueOf valuesOf tailOf joined lineAnswer
+unfolding play modelOf step over bytes within every sameText untilOf numeralFrom pick sumOf checksumOf endOf closed isLetter lengthFits misshapen wrongSum wrongAddress wrongLength headV1 headV2 frameV1 frameV2 errorOf errorBytes errorHeadV2 errorHeadV1 errorLetterV1 errorDataV1 numberOf answerOf scanOf unsignedOf fractionOf exponentOf powerOf leading startsWith normalOf sizeOf units plus minus belowOf countedOf hundredthsOf writtenOf signText trimmed pointed exponentText wholeText twoDecimals sourceText isSource findSource sourceOf listText onto parts sourceTexts entriesOf opens entriesNumber entriesList factoryOf putOf restoreOf unitText transitionText streamText readText widthOf widest longestLine putReading pressureText temperatureText valueText isFaulty isFailed sixOf roundedText measureText takes pressureAt temperatureAt pressureOf degreesOf temperatureOf benchOf addressData unitData factorIn factorOf digitData digitOf limitedOf directOf betweenOf endsOf transitionOf transitionData idleList knownMode streamOf streamData verdictOf ifSet listIn commandOf findCommand commandText isAccess canWrite canRestore lacksAccess setOf writeOf askKnown askNamed askV2 writeList namedList askList sixDigits bareOf digitOne oneOf unitAt askV1 filamentOf changesCathode readsFaulty sentText textV2 answerCode enterV2 unitCode textV1 repeats unlocks enterV1 unknownCommand lacks dataNumber badFormV2 outsideV2 endsWrong breaksRule asksFaulty unknownLetter badFormV1 lockedWrite outsideV1 measuresFaulty tableNumber acceptedV2 acceptedV1 replyOf tableAnswer enteredV2 enteredV1 asksUnlock afterwards nextOf benched valueOf valuesOf tailOf joined lineAnswer
 reached = record { trace = played longest (tt, (tt, (omega arith, (omega arith, tt)))); calls-are = plays longest; values = refl; line-is = refl; line-bytes = refl }

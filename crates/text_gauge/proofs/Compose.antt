@@ -30,7 +30,7 @@ use Rattle.requests.specs.declared.AskV1.{AskV1}
 use Rattle.requests.specs.declared.AskV1.the-variants.{Asks, Denied}
 use Rattle.gauge_rules.specs.State.{State, stateOf}
 use Rattle.gauge_rules.specs.RulesV2.{answerCode, grantV2, textV2, enterV2}
-use Rattle.gauge_rules_v1.specs.RulesV1.{grantV1, textV1, repeats, unlocks, enterV1}
+use Rattle.gauge_rules_v1.specs.RulesV1.{grantV1, textV1, repeats, unlocks, settingsV1}
 use Rattle.gauge_rules.specs.declared.Gauge.{Gauge}
 use Rattle.gauge_table.specs.Table.{answerRoom, otherAddress, numberOf}
 use Rattle.gauge_table.specs.Reply.{errorV2, errorV1, answerHead}
@@ -82,12 +82,12 @@ module _ (gauge : Gauge) (s : List ℕ) (h : HeadV1) (ask : AskV1) (m m′ : Lis
       rw e (record { sent = rw (f .1, z0, ← g) t; state = rw z0 (ap stateOf (f .0)) })
 
 pub granted-v1 : (gauge : Gauge) (s : List ℕ) (h : HeadV1) (ask : AskV1) (m m′ : List ℕ) (w : Written) (q : RequestV1) (n : ℕ) (t : Settings) → ask ≡ Asks q → n ≡ grantV1 (stateOf gauge) q → n ≡ 0
-    → Sent m (record { number = 0; reply = pick (repeats q) s (frameV1 h (textV1 (stateOf gauge) q)) }) m′ w → held t ≡ enterV1 (held (gauge .settings)) q
+    → Sent m (record { number = 0; reply = pick (repeats q) s (frameV1 h (textV1 (stateOf gauge) q)) }) m′ w → held t ≡ settingsV1 (stateOf gauge) q
     → (u : Bool) → u ≡ unlocks q → AnswersV1 (stateOf gauge) s h ask m m′ (record { gauge = record { settings = t; readings = gauge .readings; unlocked = u }; written = w })
-unfolding answerV1 nextV1 pick
+unfolding answerV1 nextV1 settingsV1 pick
 granted-v1 gauge s h ask m m′ w q n t e g z f k u v =
     let z0 : grantV1 (stateOf gauge) q ≡ 0 = sym g ∙ z in
-    rw e (record { sent = rw z0 f; state = rw (z0, k, v) })
+    rw e (record { sent = rw z0 f; state = rw (z0, rw z0 at k, v) })
 
 -- ---- any bytes
 

@@ -184,7 +184,7 @@ fn answer_v1(
             }
             let written = granted_v1(g, request, head, asks, out);
             let unlocked = gauge_rules_v1::unlocks_gauge(asks);
-            let entered = gauge_rules_v1::enter_v1(settings, asks);
+            let entered = gauge_rules_v1::enter_v1(g, asks);
             Answered {
                 gauge: gauge_rules::Gauge {
                     settings: entered,

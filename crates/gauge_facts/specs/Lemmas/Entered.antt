@@ -3,8 +3,8 @@ use mathlib.Core.Path.{_≡_, refl}
 use mathlib.Core.Bool.{Bool, true, false, not}
 use mathlib.Core.List.{List, []}
 use Prim.Native.Nat.{ℕ}
-use borrow.Author.Tests.{not-false}
-use lib.Dec.{eqb, ltb}
+use borrow.Author.Tests.{eqb-true}
+use lib.Dec.{eqb}
 use lib.ListN.{length}
 use Rattle.buffer.specs.First.{pick}
 use Rattle.buffer.specs.Byte.{within}
@@ -34,10 +34,10 @@ use Rattle.requests.specs.declared.AskV1.{AskV1}
 use Rattle.requests.specs.declared.AskV1.the-variants.{Asks, Denied}
 use Rattle.gauge_rules.specs.State.{State}
 use Rattle.gauge_rules.specs.RulesV2.{enterV2}
-use Rattle.gauge_rules_v1.specs.RulesV1.{factorNumber, grantV1, enterFactor, enterV1}
+use Rattle.gauge_rules_v1.specs.RulesV1.{grantV1, enterV1}
+use Rattle.gauge_rules_v1.proofs.Laws.{factor-in}
 use Rattle.gauge_table.specs.DecidedV1.{decidedV1}
 use Rattle.gauge_table.specs.After.{enteredV2, enteredV1}
-use Rattle.gauge_facts.specs.Lemmas.Rows.{past-row}
 
 module _ (h : Held) (f : SoundSettings h) where
   -- ---- V2, whatever the state: what is asked, and the list beside it
@@ -99,21 +99,13 @@ module _ (h : Held) (f : SoundSettings h) where
   unfolding putOf
   factor-sound n e = record { address = f .address; factor = within-true _ _ n e; control = f .control; cathode = f .cathode; filament = f .filament; transition = f .transition; list = f .list }
 
-  factor-in : (u : Bool) (n : ℕ) → eqb (factorNumber u n) 0 ≡ true → within (standard .factorLow) (standard .factorHigh) n ≡ true
-  unfolding factorNumber
-  factor-in u n e = not-false _ (past-row _ 11 _ refl (past-row (not u) 12 _ refl e .1) .0)
-
-  entered : (n : ℕ) → within (standard .factorLow) (standard .factorHigh) n ≡ true → SoundSettings (enterFactor h n)
-  unfolding enterFactor
-  entered n e = each SoundSettings (ltb (standard .factorHigh) n) h _ (λ _. f) (λ _. factor-sound n e)
-
 -- a V1 request that is accepted
 pub v1-sound : (g : State) (ask : AskV1) → SoundSettings (g .settings) → eqb (decidedV1 g ask) 0 ≡ true → SoundSettings (enteredV1 (g .settings) ask)
 unfolding decidedV1 grantV1 enteredV1 enterV1 putOf
 v1-sound g (Asks Measure) f e = f
 v1-sound g (Asks ReadFactor) f e = f
 v1-sound g (Asks Unlock) f e = f
-v1-sound g (Asks (SetFactor n)) f e = entered (g .settings) f n (factor-in (g .settings) f (g .unlocked) n e)
+v1-sound g (Asks (SetFactor n)) f e = factor-sound (g .settings) f n (factor-in (g .unlocked) n (eqb-true _ 0 e))
 v1-sound g (Asks ReadUnit) f e = f
 v1-sound g (Asks (SetUnit u)) f e = record { address = f .address; factor = f .factor; control = f .control; cathode = f .cathode; filament = f .filament; transition = f .transition; list = f .list }
 v1-sound g (Denied k) f e = f

@@ -1,12 +1,28 @@
--- `gauge_rules_v1::enter_factor` meets its contract. Assumes nothing.
+-- `gauge_rules_v1::enter_factor` meets its contract. An accepted factor fits its field. Assumes nothing.
+use mathlib.Core.Path.{sym, _∙_}
 use borrow.Author.Needs.{needs}
-use borrow.Author.Tests.{lt-ltb, le-ltb}
+use borrow.Author.Tests.{eq-eqb, ne-eqb}
+use native.Mathlib.Omega.{arith}
 use Rattle.buffer.specs.First.{pick}
-use Rattle.gauge_rules_v1.specs.RulesV1.{enterFactor}
+use Rattle.buffer.proofs.Laws.{within-true}
 use Rattle.sources.specs.Source.{listOf}
+use Rattle.gauge_rules_v1.proofs.Laws.{factor-in}
 use Rattle.gauge_rules_v1.proofs.enter_factor.Statement.{statement}
 use Rattle.gauge_rules_v1.proofs.enter_factor.Tie as tie
 
+returns : tie.Need-returns
+unfolding pick
+returns c = rw (ne-eqb _ 0 (λ z. c .if1 .taken (c .before .factor-number .ensures ∙ z)))
+
+cast-t6 : tie.Need-cast-t6
+cast-t6 c =
+    let a = c .before .before .args in
+    let h = within-true 20 800 (a .n) (factor-in (a .unlocked) (a .n) (sym (c .before .factor-number .ensures) ∙ c .if1 .left)) in
+    record { fits = omega (arith, h .1) }
+
+returns-2 : tie.Need-returns-2
+unfolding pick listOf
+returns-2 c = rw (eq-eqb _ 0 (sym (c .before .before .factor-number .ensures) ∙ c .before .if1 .left)) (c .with .ensures)
+
 pub enter-factor-spec : {M : Type 1} → statement M
-unfolding enterFactor listOf pick
-enter-factor-spec = tie.close (tie.spec (λ c. search needs) (λ c. rw (lt-ltb 800 _ (c .if1 .taken))) (λ c. search needs) (λ c κs. search needs) (λ c. rw (le-ltb 800 _ (c .before .if1 .left)) (c .with .ensures)))
+enter-factor-spec = tie.close (tie.spec (λ c κs. search needs) returns cast-t6 (λ c κs. search needs) returns-2)

@@ -1,12 +1,19 @@
 -- `gauge_rules_v1::enter_v1` meets its contract. Assumes nothing.
 use borrow.Author.Needs.{needs}
-use Rattle.gauge_rules_v1.specs.RulesV1.{enterV1}
+use Rattle.buffer.specs.First.{pick}
 use Rattle.sources.specs.Source.{listOf}
+use Rattle.gauge_rules_v1.specs.RulesV1.{grantV1, enterV1, settingsV1}
+use Rattle.gauge_rules_v1.proofs.Laws.{either}
 use Rattle.gauge_rules_v1.proofs.enter_v1.Statement.{statement}
 use Rattle.gauge_rules_v1.proofs.enter_v1.Tie as tie
 
+-- a measurement enters nothing, faulty or not
+measure : tie.Need-returns
+unfolding settingsV1 enterV1
+measure c = rw (c .enum-told .given .1) (either _ _)
+
 pub enter-v1-spec : {M : Type 1} → statement M
-unfolding enterV1 listOf
+unfolding settingsV1 grantV1 enterV1 listOf pick
 enter-v1-spec =
     tie.close
     (tie.spec
@@ -18,7 +25,7 @@ enter-v1-spec =
     (λ c κs. search needs)
     (λ c. search needs)
     (λ c κs. search needs)
-    (λ c. rw (c .enum-told .given .1))
+    measure
     (λ c. rw (c .enum-told2 .given .1))
     (λ c. rw (c .enum-told3 .given .1))
     (λ c. rw (c .enum-told4 .given .1))

@@ -1,10 +1,8 @@
 -- What a request enters is what it says of each setting. Assumes nothing.
 use mathlib.Core.Path.{_≡_, refl}
-use mathlib.Core.Bool.{false}
 use mathlib.Core.List.{List, []}
 use mathlib.Core.Option.{some}
 use Prim.Native.Nat.{ℕ}
-use lib.Dec.{ltb}
 use Rattle.buffer.specs.First.{pick}
 use Rattle.settings.specs.Settings.{Held, factoryOf, putOf, restoreOf}
 use Rattle.settings.specs.declared.Key.{Key}
@@ -19,7 +17,7 @@ use Rattle.requests.specs.declared.AskV2.the-variants.{For, Refused}
 use Rattle.requests.specs.declared.AskV1.{AskV1}
 use Rattle.requests.specs.declared.AskV1.the-variants.{Asks, Denied}
 use Rattle.gauge_rules.specs.RulesV2.{enterV2}
-use Rattle.gauge_rules_v1.specs.RulesV1.{enterFactor, enterV1}
+use Rattle.gauge_rules_v1.specs.RulesV1.{enterV1}
 use Rattle.gauge_table.specs.After.{enteredV2, enteredV1}
 use Rattle.history.specs.Latest.{orElse}
 use Rattle.sequence_facts.specs.Sequence.{holding, writesV2, writesV1, keyCode, besideOf, forKey}
@@ -61,22 +59,12 @@ v2-says key h (For (Restore (Of k))) list = put-says key h (factoryOf k) []
 v2-says key h (For (Set x)) list = put-says key h x list
 v2-says key h (Refused k) list = refl
 
--- a factor that is accepted is not above the limit
-abbrev pub FactorIn : AskV1 → Type 0
-FactorIn (Asks Measure) = Unit {0}
-FactorIn (Asks ReadFactor) = Unit {0}
-FactorIn (Asks Unlock) = Unit {0}
-FactorIn (Asks (SetFactor n)) = ltb 800 n ≡ false
-FactorIn (Asks ReadUnit) = Unit {0}
-FactorIn (Asks (SetUnit u)) = Unit {0}
-FactorIn (Denied k) = Unit {0}
-
-pub v1-says : (key : Key) (h : Held) (ask : AskV1) → FactorIn ask → holding key (enteredV1 h ask) ≡ orElse (forKey key (writesV1 ask)) (holding key h)
-unfolding enteredV1 enterV1 enterFactor writesV1 orElse forKey pick
-v1-says key h (Asks Measure) f = refl
-v1-says key h (Asks ReadFactor) f = refl
-v1-says key h (Asks Unlock) f = refl
-v1-says key h (Asks (SetFactor n)) f = rw f (put-says key h (Factor n) [])
-v1-says key h (Asks ReadUnit) f = refl
-v1-says key h (Asks (SetUnit u)) f = put-says key h (PressureIn u) []
-v1-says key h (Denied k) f = refl
+pub v1-says : (key : Key) (h : Held) (ask : AskV1) → holding key (enteredV1 h ask) ≡ orElse (forKey key (writesV1 ask)) (holding key h)
+unfolding enteredV1 enterV1 writesV1 orElse forKey
+v1-says key h (Asks Measure) = refl
+v1-says key h (Asks ReadFactor) = refl
+v1-says key h (Asks Unlock) = refl
+v1-says key h (Asks (SetFactor n)) = put-says key h (Factor n) []
+v1-says key h (Asks ReadUnit) = refl
+v1-says key h (Asks (SetUnit u)) = put-says key h (PressureIn u) []
+v1-says key h (Denied k) = refl

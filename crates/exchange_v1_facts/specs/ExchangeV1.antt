@@ -27,6 +27,7 @@ use Rattle.requests.specs.declared.RequestV1.{RequestV1}
 use Rattle.requests.specs.declared.RequestV1.the-variants.{Measure, ReadFactor, Unlock, SetFactor, ReadUnit, SetUnit}
 use Rattle.requests.specs.declared.AskV1.the-variants.{Asks}
 use Rattle.request_texts.specs.RequestText.{digits6, unitCode, letterV1, dataV1, headForV1}
+use Rattle.printed_facts.specs.Sendable as printed
 use Rattle.replies_v1.specs.ReplyV1.{valueV1, readV1}
 use Rattle.replies_v1.specs.declared.ReplyV1.the-variants.{Reads, Done, Error}
 use Rattle.replies_v1.specs.declared.ReadV1.{ReadV1}
@@ -40,7 +41,7 @@ use Rattle.gauge_table.specs.Table.{numberOf}
 use Rattle.gauge_table.specs.After.{answerOf}
 use Rattle.gauge_facts.specs.Kept.{SoundState}
 use Rattle.exchange_v1_facts.specs.HeldV1.{roundedV1, heldV1, errorTextV1, expectedV1}
-use Rattle.exchange_v1_facts.specs.Lemmas.Rows.{Seen, seen, frame-read, letter-is, digits-read}
+use Rattle.exchange_v1_facts.specs.Lemmas.Rows.{Seen, seen, frame-read, digits-read}
 use Rattle.exchange_v1_facts.specs.Lemmas.Values.{six-are, echo-held, factor-held, unit-held, fault-held, measure-digits, pressure-held}
 
 -- ---- a set's reply
@@ -72,7 +73,7 @@ module _ (a : ℕ) (r : RequestV1) (i : within 1 999 a ≡ true) where
   range-read : readV1 a r (errorV1 11 (headForV1 a r)) ≡ Read (Error Range)
   unfolding errorHeadV1 errorLetterV1 errorDataV1 errorBytes every within sameText pick
   range-read =
-      frame-read a (letterV1 r) r (95 ∷ 82 ∷ 65 ∷ 78 ∷ 71 ∷ 69 ∷ []) (record { address-in = i; letter-in = letter-is r; bytes-in = refl; few = omega arith })
+      frame-read a (letterV1 r) r (95 ∷ 82 ∷ 65 ∷ 78 ∷ 71 ∷ 69 ∷ []) (record { address-in = i; letter-in = printed.letter-in r; bytes-in = refl; few = omega arith })
       ∙ rw (eq-eqb (letterV1 r) (letterV1 r) refl)
 
   -- any other number: the letter and `_LOGIC`
@@ -80,7 +81,7 @@ module _ (a : ℕ) (r : RequestV1) (i : within 1 999 a ≡ true) where
   unfolding errorHeadV1 errorLetterV1 errorDataV1 errorBytes every within sameText pick
   logic-read k p q z =
       rw (p, q, z)
-      (frame-read a (letterV1 r) r (95 ∷ 76 ∷ 79 ∷ 71 ∷ 73 ∷ 67 ∷ []) (record { address-in = i; letter-in = letter-is r; bytes-in = refl; few = omega arith })
+      (frame-read a (letterV1 r) r (95 ∷ 76 ∷ 79 ∷ 71 ∷ 73 ∷ 67 ∷ []) (record { address-in = i; letter-in = printed.letter-in r; bytes-in = refl; few = omega arith })
       ∙ rw (eq-eqb (letterV1 r) (letterV1 r) refl))
 
   -- an error's reply is read as its error, whatever the number; 13 answers a measurement only

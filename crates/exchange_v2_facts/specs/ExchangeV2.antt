@@ -15,6 +15,7 @@ use Rattle.frames.specs.Frame.{dataFrom, addressOf, headV2, frameOf}
 use Rattle.frames.specs.declared.HeadV2.{HeadV2}
 use Rattle.frames.specs.declared.Frame.the-variants.{V2}
 use Rattle.frame_writer.specs.Written.{frameV2}
+use Rattle.frames_facts.specs.Shape.{Tells, tells}
 use Rattle.frame_writer.specs.Error.{errorOf}
 use Rattle.frame_writer.specs.declared.ErrorText.the-variants.{Error1}
 use Rattle.settings.specs.declared.Key.the-variants.{DA, DU, C1, CM, CC, FC, ST, SM}
@@ -45,10 +46,10 @@ use Rattle.gauge_table.specs.Table.{otherAddress, numberOf}
 use Rattle.gauge_table.specs.Reply.{errorV2, answerHead, acceptedV2, replyOf}
 use Rattle.gauge_table.specs.After.{answerOf}
 use Rattle.gauge_table.specs.DecidedV2.{decidedV2}
-use Rattle.gauge_table.specs.Numbers.{Tells, tells, number-v2}
+use Rattle.gauge_table.specs.Numbers.{number-v2}
+use Rattle.gauge_table.specs.Sendable.{text-printed}
 use Rattle.gauge_facts.specs.Kept.{SoundState}
 use Rattle.gauge_facts.specs.Lengths.{text-v2-le}
-use Rattle.exchange_v2_facts.specs.Lemmas.Printed.{text-printed}
 use Rattle.exchange_v2_facts.specs.Lemmas.Frames.{accepted-read, error-read}
 use Rattle.exchange_v2_facts.specs.Lemmas.Alike.{same-head, same-answer, same-grant, never-silent}
 use Rattle.exchange_v2_facts.specs.Lemmas.Values.{filament-read, status-read, setting-read, stream-list, measured-read, below-read, above-read, degrees-below-read, degrees-read}

@@ -1,6 +1,6 @@
 -- Laws of frames that are written. Assumes nothing.
 use mathlib.Core.Path.{_≡_, sym, ap, _∙_}
-use mathlib.Core.Bool.{true, false, not}
+use mathlib.Core.Bool.{Bool, true, false, not}
 use mathlib.Core.List.{List, [], _∷_, _++_}
 use Prim.Native.Nat.{ℕ, _+_, _<_, _≤_}
 use native.Mathlib.Nat.{zero-add}
@@ -14,7 +14,7 @@ use Rattle.buffer.proofs.Rules.{rules}
 use Rattle.frames.specs.Checksum.{endOf, closed}
 use Rattle.frames.specs.declared.HeadV1.{HeadV1}
 use Rattle.frames.specs.declared.HeadV2.{HeadV2}
-use Rattle.frame_writer.specs.Written.{frameWritten, frameV1, frameV2, writtenV1, writtenV2}
+use Rattle.frame_writer.specs.Written.{carriesV1, carriesV2, frameWritten, frameV1, frameV2, writtenV1, writtenV2}
 
 pub length-closed : (head bytes : List ℕ) → length (closed (head ++ bytes)) ≡ length head + length bytes + 2
 unfolding closed endOf
@@ -26,21 +26,21 @@ unfolding closed
 closes p f n h g = then p f (n ∙ sym (zero-add _)) (rw (front p f n h) at g)
 
 -- what a frame's writer answers, by its tests
-module _ (room most address : ℕ) (bytes frame : List ℕ) where
-  pub no-room : room < length frame → frameWritten room most address bytes frame ≡ silent 1
+module _ (room : ℕ) (carried : Bool) (address : ℕ) (frame : List ℕ) where
+  pub no-room : room < length frame → frameWritten room carried address frame ≡ silent 1
   unfolding frameWritten
   no-room h = sym (search rules)
 
-  pub too-many : length frame ≤ room → most < length bytes → frameWritten room most address bytes frame ≡ silent 2
+  pub no-frame : length frame ≤ room → not carried ≡ true → frameWritten room carried address frame ≡ silent 2
   unfolding frameWritten
-  too-many h k = sym (search rules)
+  no-frame h k = sym (search rules)
 
-  pub outside : length frame ≤ room → length bytes ≤ most → not (within 1 999 address) ≡ true → frameWritten room most address bytes frame ≡ silent 4
+  pub outside : length frame ≤ room → not carried ≡ false → not (within 1 999 address) ≡ true → frameWritten room carried address frame ≡ silent 4
   unfolding frameWritten
   outside h k o = sym (search rules)
 
-  pub written : length frame ≤ room → length bytes ≤ most → not (within 1 999 address) ≡ false
-      → frameWritten room most address bytes frame ≡ record { number = 0; reply = frame }
+  pub written : length frame ≤ room → not carried ≡ false → not (within 1 999 address) ≡ false
+      → frameWritten room carried address frame ≡ record { number = 0; reply = frame }
   unfolding frameWritten
   written h k o = sym (search rules)
 
@@ -59,10 +59,10 @@ length-v1 h bytes =
     omega (arith, e)
 
 module _ (m m′ bytes : List ℕ) (w : Written) where
-  pub sent-v2 : (h : HeadV2) → 10 + length bytes ≤ length m → length bytes ≤ 99 → within 1 999 (h .address) ≡ true → Sent m (writtenV2 (length m) h bytes) m′ w
+  pub sent-v2 : (h : HeadV2) → 10 + length bytes ≤ length m → carriesV2 h bytes ≡ true → within 1 999 (h .address) ≡ true → Sent m (writtenV2 (length m) h bytes) m′ w
       → Sent m (record { number = 0; reply = frameV2 h bytes }) m′ w
-  sent-v2 h r n a s = rw (written (length m) 99 (h .address) bytes (frameV2 h bytes) (omega (arith, length-v2 h bytes)) n (ap not a)) at s
+  sent-v2 h r c a s = rw (written (length m) (carriesV2 h bytes) (h .address) (frameV2 h bytes) (omega (arith, length-v2 h bytes)) (ap not c) (ap not a)) at s
 
-  pub sent-v1 : (h : HeadV1) → 6 + length bytes ≤ length m → length bytes ≤ 6 → within 1 999 (h .address) ≡ true → Sent m (writtenV1 (length m) h bytes) m′ w
+  pub sent-v1 : (h : HeadV1) → 6 + length bytes ≤ length m → carriesV1 h bytes ≡ true → within 1 999 (h .address) ≡ true → Sent m (writtenV1 (length m) h bytes) m′ w
       → Sent m (record { number = 0; reply = frameV1 h bytes }) m′ w
-  sent-v1 h r n a s = rw (written (length m) 6 (h .address) bytes (frameV1 h bytes) (omega (arith, length-v1 h bytes)) n (ap not a)) at s
+  sent-v1 h r c a s = rw (written (length m) (carriesV1 h bytes) (h .address) (frameV1 h bytes) (omega (arith, length-v1 h bytes)) (ap not c) (ap not a)) at s

@@ -8,7 +8,7 @@ ghost use Rattle.buffer.specs.Byte.{within, sameText};
 ghost use Rattle.buffer.specs.Answer.{Stored, Sent};
 ghost use Rattle.buffer.specs.Text.{textOf};
 ghost use Rattle.frames.specs.Checksum.{endOf, closed};
-ghost use Rattle.frame_writer.specs.Written.{frameWritten, writtenV2, writtenV1};
+ghost use Rattle.frame_writer.specs.Written.{dataFit, carriesV2, carriesV1, frameWritten, writtenV2, writtenV1};
 ghost use Rattle.frame_writer.specs.Error.{errorBytes, errorOf, errorHeadV2, errorHeadV1, errorDataV1};
 
 // Stores the checksum of all that stands before `at`, and CR: the end of a frame and of a frameless line.
@@ -29,24 +29,60 @@ pub fn is_address(address: u16) -> bool
     1 <= address && address <= 999
 }
 
-// Writes a whole frame at the front of out: its head, the data and the end. Refuses with 1 where it does not fit, with 2 where the
-// data are over `most` bytes, with 4 where the address lies outside 1 to 999; then out stays as it was.
+// Whether a frame can carry these data: at most `most` bytes of 32 to 126.
+fn data_fit(bytes: &[u8], most: usize) -> bool
+    ensures { λ r. ⌜ r ≡ dataFit most (now (bytes .entry)) ⌝ }
+{
+    if most < bytes.len() {
+        return false;
+    }
+    buffer::all_within(bytes, 32, 126)
+}
+
+// Whether a V2 frame can carry this head and these data.
+fn carries_v2(head: frames::HeadV2, bytes: &[u8]) -> bool
+    ensures { λ r. ⌜ r ≡ carriesV2 head (now (bytes .entry)) ⌝ }
+{
+    if !buffer::is_within(head.access, 48, 57) {
+        return false;
+    }
+    if !buffer::is_within(head.first, 32, 126) {
+        return false;
+    }
+    if !buffer::is_within(head.second, 32, 126) {
+        return false;
+    }
+    data_fit(bytes, 99)
+}
+
+// Whether a V1 frame can carry this head and these data.
+fn carries_v1(head: frames::HeadV1, bytes: &[u8]) -> bool
+    ensures { λ r. ⌜ r ≡ carriesV1 head (now (bytes .entry)) ⌝ }
+{
+    if !frames::is_letter(head.letter) {
+        return false;
+    }
+    data_fit(bytes, 6)
+}
+
+// Writes a whole frame at the front of out: its head, the data and the end. Refuses with 1 where it does not fit, with 2 where a frame
+// cannot carry them (`carried` is false), with 4 where the address lies outside 1 to 999; then out stays as it was.
 fn write_frame(
     out: &mut [u8],
     address: u16,
     head: &[u8],
     bytes: &[u8],
-    most: usize,
+    carried: bool,
 ) -> buffer::Written
     requires { ⌜ length (now head) ≤ 8 ⌝ }
-    ensures { λ r. ⌜ Sent (now (out .entry)) (frameWritten (length (now (out .entry))) most address (now (bytes .entry)) (closed (now (head .entry) ++ now (bytes .entry)))) (now (out .exit)) r ⌝ }
+    ensures { λ r. ⌜ Sent (now (out .entry)) (frameWritten (length (now (out .entry))) carried address (closed (now (head .entry) ++ now (bytes .entry)))) (now (out .exit)) r ⌝ }
 {
     let k = head.len();
     let n = bytes.len();
     if out.len() < k + n + 2 {
         return buffer::Written { number: 1, len: 0 };
     }
-    if most < n {
+    if !carried {
         return buffer::Written { number: 2, len: 0 };
     }
     if !is_address(address) {
@@ -61,7 +97,8 @@ fn write_frame(
     }
 }
 
-// Writes a V2 frame with these data, at most 99 bytes.
+// Writes a V2 frame with these data. Refuses with 1, 2 (the access code is no digit, a byte of the command or of the data is outside 32 to
+// 126, or the data are over 99 bytes) or 4; then out stays as it was.
 pub fn write_v2(out: &mut [u8], head: frames::HeadV2, bytes: &[u8]) -> buffer::Written
     ensures { λ r. ⌜ Sent (now (out .entry)) (writtenV2 (length (now (out .entry))) head (now (bytes .entry))) (now (out .exit)) r ⌝ }
 {
@@ -77,10 +114,12 @@ pub fn write_v2(out: &mut [u8], head: frames::HeadV2, bytes: &[u8]) -> buffer::W
         (n / 10 % 10) as u8 + 48,
         (n % 10) as u8 + 48,
     ];
-    write_frame(out, address, &start, bytes, 99)
+    let carried = carries_v2(head, bytes);
+    write_frame(out, address, &start, bytes, carried)
 }
 
-// Writes a V1 frame with these data, at most 6 bytes.
+// Writes a V1 frame with these data. Refuses with 1, 2 (the letter is none, a byte of the data is outside 32 to 126, or the data are over 6
+// bytes) or 4; then out stays as it was.
 pub fn write_v1(out: &mut [u8], head: frames::HeadV1, bytes: &[u8]) -> buffer::Written
     ensures { λ r. ⌜ Sent (now (out .entry)) (writtenV1 (length (now (out .entry))) head (now (bytes .entry))) (now (out .exit)) r ⌝ }
 {
@@ -91,7 +130,8 @@ pub fn write_v1(out: &mut [u8], head: frames::HeadV1, bytes: &[u8]) -> buffer::W
         (address % 10) as u8 + 48,
         head.letter,
     ];
-    write_frame(out, address, &start, bytes, 6)
+    let carried = carries_v1(head, bytes);
+    write_frame(out, address, &start, bytes, carried)
 }
 
 // Writes a V2 frame whose data are a short text.

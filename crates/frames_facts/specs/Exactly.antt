@@ -1,12 +1,12 @@
 -- Bytes are read as a frame exactly if they are one: the head and the data can be sent, and the bytes are their frame. Assumes nothing.
-use mathlib.Core.Path.{_≡_, ap, _∙_}
+use mathlib.Core.Path.{_≡_, refl, ap, _∙_}
 use mathlib.Core.Bool.{true, false}
 use mathlib.Core.List.{List, [], _∷_, _++_}
 use mathlib.Core.Logic.{_↔_}
 use Prim.Native.Nat.{ℕ, _≤_}
 use native.Mathlib.Omega.{arith}
 use lib.ListN.{length, length-take, length-drop}
-use Rattle.buffer.specs.Byte.{at, digits2, digits3}
+use Rattle.buffer.specs.Byte.{at, every, digits2, digits3}
 use Rattle.frames.specs.Checksum.{closed}
 use Rattle.frames.specs.Frame.{isLetter, body, dataFrom, addressOf, wrongLength, headV1, headV2, frameOf}
 use Rattle.frames.specs.declared.HeadV1.{HeadV1}
@@ -45,6 +45,13 @@ module _ (s : List ℕ) (f : Framed s) (l : isLetter (at s 3) ≡ false) where
         len-part s (a .1) ∙ count-digits s (a .1) w,
       )
 
+  -- the head alone, whatever LEN says
+  pub head-read-v2 : SendableV2 (headV2 s) []
+  unfolding every
+  head-read-v2 =
+      let ok = sendable2 in
+      record { address-in = ok .address-in; access-in = ok .access-in; first-in = ok .first-in; second-in = ok .second-in; bytes-in = refl; few = omega arith }
+
   frame-is2 : wrongLength s ≡ false → s ≡ frameV2 (headV2 s) (dataFrom 8 s)
   unfolding frameV2 headV2
   frame-is2 w =
@@ -72,6 +79,11 @@ module _ (s : List ℕ) (f : Framed s) (l : isLetter (at s 3) ≡ true) where
   sendable1 =
       let a = six-to-twelve s f l in
       record { address-in = address-digits s f (omega arith) .1; letter-in = l; bytes-in = data-prints s f 4; few = simp (length-drop, length-take) (omega arith) }
+
+  -- the head alone
+  pub head-read-v1 : SendableV1 (headV1 s) []
+  unfolding every
+  head-read-v1 = record { address-in = sendable1 .address-in; letter-in = sendable1 .letter-in; bytes-in = refl; few = omega arith }
 
   body-is1 : body s ≡ digits3 (addressOf s) ++ (at s 3 ∷ []) ++ dataFrom 4 s
   body-is1 =

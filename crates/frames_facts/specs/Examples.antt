@@ -7,12 +7,13 @@ use Prim.Native.String.{String}
 use lib.Dec.{eqb}
 use Rattle.buffer.specs.First.{pick}
 use Rattle.buffer.specs.Byte.{at, within, every, sameText, numeralFrom}
+use Rattle.buffer.specs.Answer.{Answer}
 use Rattle.buffer.specs.Quoted.{bytes}
 use Rattle.frames.specs.Checksum.{sumOf, checksumOf, endOf, closed}
 use Rattle.frames.specs.Frame.{isLetter, lengthFits, misshapen, wrongSum, wrongAddress, wrongLength, headV1, headV2, frameOf, frameNumber}
 use Rattle.frames.specs.declared.HeadV1.{HeadV1}
 use Rattle.frames.specs.declared.HeadV2.{HeadV2}
-use Rattle.frame_writer.specs.Written.{frameV2, frameV1}
+use Rattle.frame_writer.specs.Written.{dataFit, carriesV2, carriesV1, frameWritten, frameV2, frameV1, writtenV2, writtenV1}
 use Rattle.frame_writer.specs.Error.{errorOf, errorBytes, errorHeadV2, errorLetterV1, errorDataV1, errorHeadV1}
 
 -- ---- bytes that come, and the number that a reader of frames gives them: 0 is a frame
@@ -106,3 +107,50 @@ well c = sameText (c .frame) (c .text)
 pub all-sent : every well sendings ≡ true
 unfolding bytes every pick sameText sumOf checksumOf endOf closed frameV2 frameV1 errorOf errorBytes errorHeadV2 errorLetterV1 errorDataV1 errorHeadV1
 all-sent = refl
+
+-- ---- what a frame's writer answers: 0 is a frame
+
+pub record Writing : Type 0 where
+  pub answer : Answer
+  pub number : ℕ
+
+-- a writer that is lent `room` bytes for a frame of this address, access and command (V1: letter) and data
+abbrev pub writingV2 : ℕ → ℕ → String → String → ℕ → Writing
+writingV2 room address start text number =
+    let s = bytes start in
+    let h : HeadV2 = record { address = address; access = at s 0; first = at s 1; second = at s 2 } in
+    record { answer = writtenV2 room h (bytes text); number = number }
+
+abbrev pub writingV1 : ℕ → ℕ → String → String → ℕ → Writing
+writingV1 room address letter text number =
+    let h : HeadV1 = record { address = address; letter = at (bytes letter) 0 } in
+    record { answer = writtenV1 room h (bytes text); number = number }
+
+abbrev pub writings : List Writing
+writings =
+    writingV2 14 1 "2DU" "mbar" 0
+    ∷ writingV1 12 999 "c" "000100" 0
+    -- ROOM
+    ∷ writingV2 13 1 "2DU" "mbar" 1
+    -- SHAPE: data that hold a frame of their own, which would change the address; a byte 31, and 127; an access code that is no digit; a command
+    -- with CR; a letter that is none, seven data
+    ∷ writingV2 109 1 "2DU" "x\r0012DA03005@\r" 2
+    ∷ writingV2 109 1 "2DU" "mb\u{1f}r" 2
+    ∷ writingV2 109 1 "2DU" "mb\u{7f}r" 2
+    ∷ writingV2 109 1 "MDU" "mbar" 2
+    ∷ writingV2 109 1 "2\rU" "mbar" 2
+    ∷ writingV1 109 1 "0" "" 2
+    ∷ writingV1 109 1 "[" "" 2
+    ∷ writingV1 109 1 "c" "00010\r" 2
+    ∷ writingV1 109 1 "c" "0000100" 2
+    -- ADDRESS
+    ∷ writingV2 109 0 "2DU" "mbar" 4
+    ∷ writingV1 109 1000 "M" "" 4
+    ∷ []
+
+abbrev pub answered : Writing → Bool
+answered c = eqb (c .answer .number) (c .number)
+
+pub all-answered : every answered writings ≡ true
+unfolding bytes every within pick closed endOf sumOf checksumOf isLetter frameV2 frameV1 dataFit carriesV2 carriesV1 frameWritten
+all-answered = refl

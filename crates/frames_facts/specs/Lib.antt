@@ -2,4 +2,5 @@
 pub mod Shape
 pub mod ReadBack
 pub mod Exactly
+pub mod Accepted
 pub mod Examples

@@ -17,10 +17,9 @@ use Rattle.frames.specs.declared.HeadV1.{HeadV1}
 use Rattle.frames.specs.declared.HeadV2.{HeadV2}
 use Rattle.frame_writer.specs.Written.{frameV1, frameV2}
 use Rattle.frame_writer.specs.Error.{errorOf, errorBytes, errorDataV1}
-use Rattle.frame_writer.specs.declared.ErrorText.{ErrorText}
-use Rattle.frame_writer.specs.declared.ErrorText.the-variants.{Length, Logic, NoDef, Syntax, Range, Error1}
+use Rattle.frame_writer.specs.declared.ErrorText.the-variants.{Logic, Range}
 use Rattle.sources.specs.Source.{mostEntries}
-use Rattle.printed_facts.specs.Fits.{read-le}
+use Rattle.printed_facts.specs.Fits.{error-le, read-le}
 use Rattle.readings.specs.Reading.{valueText}
 use Rattle.readings.specs.Measure.{sixOf, roundedText, measureText}
 use Rattle.readings.specs.declared.Pressure.{Pressure}
@@ -55,15 +54,6 @@ unfolding frameV1 closed endOf
 length-v1 h d = simp length-append (omega arith)
 
 -- ---- errors
-
-pub error-le : (e : ErrorText) → length (errorBytes e) ≤ 6
-unfolding errorBytes
-error-le Length = omega arith
-error-le Logic = omega arith
-error-le NoDef = omega arith
-error-le Syntax = omega arith
-error-le Range = omega arith
-error-le Error1 = omega arith
 
 abbrev Short : List ℕ → Type 0
 Short d = length d ≤ 6

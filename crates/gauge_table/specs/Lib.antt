@@ -6,3 +6,4 @@ pub mod After
 pub mod DecidedV2
 pub mod DecidedV1
 pub mod Numbers
+pub mod Sendable

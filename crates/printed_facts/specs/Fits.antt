@@ -1,9 +1,12 @@
--- Lengths of the texts that reads of settings send. Assumes nothing.
+-- Lengths of the texts that reads of settings and refusals send. Assumes nothing.
 use mathlib.Core.Bool.{Bool, true, false}
 use mathlib.Core.List.{List}
 use Prim.Native.Nat.{ℕ, _≤_}
 use native.Mathlib.Omega.{arith}
 use lib.ListN.{length, length-append}
+use Rattle.frame_writer.specs.Error.{errorBytes}
+use Rattle.frame_writer.specs.declared.ErrorText.{ErrorText}
+use Rattle.frame_writer.specs.declared.ErrorText.the-variants.{Length, Logic, NoDef, Syntax, Range, Error1}
 use Rattle.decimal_text.proofs.Laws.{two-le}
 use Rattle.sources.specs.Source.{mostEntries}
 use Rattle.sources.proofs.Laws.{list-text-le}
@@ -37,3 +40,12 @@ read-le h few CC = omega arith
 read-le h few FC = omega arith
 read-le h few ST = transition-le (h .transition)
 read-le h few SM = omega (arith, stream-le (h .streaming) (h .list) few)
+
+pub error-le : (e : ErrorText) → length (errorBytes e) ≤ 6
+unfolding errorBytes
+error-le Length = omega arith
+error-le Logic = omega arith
+error-le NoDef = omega arith
+error-le Syntax = omega arith
+error-le Range = omega arith
+error-le Error1 = omega arith

@@ -1,33 +1,29 @@
 -- Laws of requests that are written. Assumes nothing.
 use mathlib.Core.Path.{_≡_, sym, ap}
 use mathlib.Core.Bool.{true, false, not}
+use mathlib.Core.List.{List}
 use Prim.Native.Nat.{ℕ, _<_, _≤_}
 use native.Mathlib.Omega.{arith}
 use borrow.Author.Tests.{ne-eqb, eq-eqb}
 use lib.Dec.{eqb}
-use lib.ListN.{length, take, length-take}
+use lib.ListN.{length}
 use Rattle.buffer.specs.Byte.{within}
 use Rattle.buffer.specs.Answer.{silent}
 use Rattle.buffer.proofs.Rules.{rules}
-use Rattle.frame_writer.specs.Written.{frameV1}
+use Rattle.frame_writer.specs.Written.{carriesV2, frameV1}
+use Rattle.frames_facts.specs.Accepted.{sendable-exactly-v2}
 use Rattle.sources.specs.Source.{listOf}
 use Rattle.sources.specs.declared.Sources.{Sources}
 use Rattle.requests.specs.declared.RequestV2.{RequestV2}
 use Rattle.requests.specs.declared.RequestV1.{RequestV1}
-use Rattle.requests.specs.declared.RequestV1.the-variants.{Measure, ReadFactor, Unlock, SetFactor, ReadUnit, SetUnit}
-use Rattle.request_texts.specs.RequestText.{headForV1, dataV1}
+use Rattle.request_texts.specs.RequestText.{headFor, dataV2, headForV1, dataV1}
+use Rattle.printed_facts.specs.Sendable.{request-sendable-v2}
 use Rattle.request_writer.specs.Typed.{formedV2, formedV1}
 use Rattle.request_writer.specs.Written.{sentV2, requestWrittenV2, requestWrittenV1}
 
--- a V1 request has at most six data
-pub data-v1-le : (r : RequestV1) → length (dataV1 r) ≤ 6
-unfolding dataV1
-data-v1-le Measure = omega arith
-data-v1-le ReadFactor = omega arith
-data-v1-le Unlock = omega arith
-data-v1-le (SetFactor n) = omega arith
-data-v1-le ReadUnit = omega arith
-data-v1-le (SetUnit u) = omega arith
+-- a frame carries the text of a request
+pub carried-v2 : (address : ℕ) (r : RequestV2) (list t : List ℕ) → within 1 999 address ≡ true → t ≡ dataV2 r list → length t ≤ 99 → carriesV2 (headFor address r) t ≡ true
+carried-v2 address r list t a e n = rw e (sendable-exactly-v2 _ _ .0 (request-sendable-v2 address r list a (rw (← e) n)) .0)
 
 -- what the writers answer, by their tests
 module _ (room address : ℕ) where

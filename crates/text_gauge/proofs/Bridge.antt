@@ -1,18 +1,18 @@
 -- From a typed request, decided, to the table: the same answer and the same state afterwards. Assumes nothing.
 use mathlib.Core.Path.{_≡_, refl, sym, _∙_}
-use mathlib.Core.Bool.{Bool, true, false, cond, _&&_, and-false, true≢false}
+use mathlib.Core.Bool.{Bool, true, false, cond, _&&_, and-false}
 use mathlib.Core.List.{List}
 use mathlib.Core.Logic.{_⊎_, inl, inr}
 use Prim.Native.Nat.{ℕ, _≤_}
 use native.Mathlib.Omega.{arith}
-use borrow.Author.Tests.{ne-eqb, eqb-false}
+use borrow.Author.Tests.{ne-eqb}
 use lib.Dec.{eqb}
 use Rattle.buffer.specs.First.{pick}
 use Rattle.buffer.specs.Byte.{at, within}
 use Rattle.buffer.specs.Answer.{Answer, silent}
-use Rattle.buffer.proofs.Laws.{within-in, within-true, within-above, within-below}
+use Rattle.buffer.proofs.Laws.{within-true, within-above, within-below}
 use Rattle.buffer.proofs.Rules.{each}
-use Rattle.frames.specs.Frame.{isLetter, dataFrom, addressOf, wrongAddress, headV1, headV2}
+use Rattle.frames.specs.Frame.{isLetter, dataFrom, headV1, headV2}
 use Rattle.frames.specs.declared.HeadV2.{HeadV2}
 use Rattle.forms.specs.Judged.{verdictOf}
 use Rattle.forms.specs.Forms.{digitData}
@@ -216,20 +216,3 @@ module _ (g : State) (s : List ℕ) (l : isLetter (at s 3) ≡ true) where
   table-v1 room n =
       let h = late-v1 (at s 3) (dataFrom 4 s) in
       (rw n (whole _ _ _ (number-of-v1 (askedV1 s)) (reply-v1 (askedV1 s) h refl)), rw n (after-v1 (askedV1 s) h refl))
-
--- ---- the address
-
-some : (s : List ℕ) → wrongAddress s ≡ false → eqb (addressOf s) 0 ≡ false
-unfolding wrongAddress
-some s =
-    each (λ (x : Bool). x ≡ false → eqb (addressOf s) 0 ≡ false) _ _ _ (λ _ e. absurd (true≢false e))
-    (λ _. each (λ (x : Bool). x ≡ false → eqb (addressOf s) 0 ≡ false) _ _ _ (λ _ e. absurd (true≢false e)) (λ z _. z))
-
--- an address that passed checks 4 and 5 is one that a frame can hold
-pub sendable : (s : List ℕ) (a : ℕ) → wrongAddress s ≡ false → addressOf s ≡ a → a ≤ 255 → within 1 999 a ≡ true
-sendable s a w e h =
-    let z = eqb-false (addressOf s) 0 (some s w) in
-    within-in 1 999 a (some-le a (λ o. z (e ∙ o))) (omega arith)
-  where
-    some-le : (n : ℕ) → (n ≡ 0 → ⊥) → 1 ≤ n
-    some-le n f = omega arith

@@ -1,7 +1,7 @@
 -- The parts of an answer, put together. Assumes nothing.
 use mathlib.Core.Path.{_≡_, sym, ap, _∙_}
 use mathlib.Core.Bool.{Bool, true, false, not, true≢false, false≢true}
-use mathlib.Core.List.{List}
+use mathlib.Core.List.{List, []}
 use Prim.Native.Nat.{ℕ, _≤_}
 use native.Mathlib.Omega.{arith}
 use borrow.Author.Tests.{ne-eqb, not-false}
@@ -18,6 +18,9 @@ use Rattle.frames.specs.declared.HeadV1.{HeadV1}
 use Rattle.frames.specs.declared.HeadV2.{HeadV2}
 use Rattle.frames.specs.declared.Frame.{Frame}
 use Rattle.frame_writer.specs.Written.{frameV1, frameV2}
+use Rattle.frames_facts.specs.ReadBack.{SendableV1, SendableV2}
+use Rattle.frames_facts.specs.Shape.{Framed, Tells, tells}
+use Rattle.frames_facts.specs.Exactly.{head-read-v1, head-read-v2}
 use Rattle.settings.specs.Settings.{held}
 use Rattle.settings.specs.declared.Settings.{Settings}
 use Rattle.requests.specs.AskV2.{askV2, askList}
@@ -34,11 +37,11 @@ use Rattle.gauge_rules_v1.specs.RulesV1.{grantV1, textV1, repeats, unlocks, set
 use Rattle.gauge_rules.specs.declared.Gauge.{Gauge}
 use Rattle.gauge_table.specs.Table.{answerRoom, otherAddress, numberOf}
 use Rattle.gauge_table.specs.Reply.{errorV2, errorV1, answerHead}
-use Rattle.gauge_table.specs.Numbers.{Framed, Tells, tells, number-6, number-v1, number-v2}
+use Rattle.gauge_table.specs.Numbers.{Numbered, numbered, number-6, number-v1, number-v2}
 use Rattle.text_gauge.specs.Answer.{Answers}
 use Rattle.text_gauge.specs.Inner.{Fits, answerV2, nextV2, answerV1, nextV1, AnswersV2, AnswersV1}
 use Rattle.text_gauge.specs.declared.Answered.{Answered}
-use Rattle.text_gauge.proofs.Bridge.{quiet, table-v2, table-length, table-v1, sendable}
+use Rattle.text_gauge.proofs.Bridge.{quiet, table-v2, table-length, table-v1}
 
 -- an answer that was made, with another name
 abbrev Made : Gauge → Written → Answered → Type 0
@@ -94,6 +97,9 @@ granted-v1 gauge s h ask m m′ w q n t e g z f k u v =
 pub tells-at : (s : List ℕ) (f : Frame) → f ≡ frameOf s → Tells s f
 tells-at s f e = rw e (tells s)
 
+pub numbered-at : (s : List ℕ) (f : Frame) → f ≡ frameOf s → Numbered s f
+numbered-at s f e = rw e (numbered s)
+
 pub no-room : (g : State) (room : ℕ) (s : List ℕ) → ltb room answerRoom ≡ true → numberOf g room s ≡ 1
 unfolding numberOf pick
 no-room g room s e = rw e
@@ -126,9 +132,9 @@ module _ (gauge : Gauge) (s m : List ℕ) where
         let t = table-length (stateOf gauge) s l (length m) (number-6 s (stateOf gauge) (length m) room fr o l x) in
         record { sent = rw (t .0, f .1) (rw e at h); state = ap stateOf (f .0) ∙ sym (t .1) }
 
--- ---- addresses and lengths
+-- ---- addresses and heads
 
-module _ (s m : List ℕ) (a : ℕ) where
+module _ (s : List ℕ) (a : ℕ) where
   pub other-v1 : (head : HeadV1) → head ≡ headV1 s → (head .address ≡ a → ⊥) → not (eqb (addressOf s) a) ≡ true
   unfolding headV1
   other-v1 head e f = not-neqb (addressOf s) a (λ z. f (ap (λ (h : HeadV1). h .address) e ∙ z))
@@ -145,26 +151,10 @@ module _ (s m : List ℕ) (a : ℕ) where
   unfolding headV2
   own-v2 head e z = not-eqb (addressOf s) a (sym (ap (λ (h : HeadV2). h .address) e) ∙ z)
 
-  pub fits-v1 : (head : HeadV1) → Framed s → head ≡ headV1 s → head .address ≡ a → a ≤ 255 → 64 ≤ length m → Fits (head .address) m
-  unfolding headV1
-  fits-v1 head f e z n r = record { room = r; sendable = rw z (sendable s a (f .address) (sym (ap (λ (h : HeadV1). h .address) e) ∙ z) n) }
+-- a head that was read from a frame, and room for any reply
+module _ (s m : List ℕ) (f : Framed s) (r : 64 ≤ length m) where
+  pub fits-v1 : (head : HeadV1) → head ≡ headV1 s → isLetter (at s 3) ≡ true → Fits (SendableV1 head []) m
+  fits-v1 head e l = record { room = r; sendable = rw e (head-read-v1 s f l) }
 
-  pub fits-v2 : (head : HeadV2) → Framed s → head ≡ headV2 s → head .address ≡ a → a ≤ 255 → 64 ≤ length m → Fits (head .address) m
-  unfolding headV2
-  fits-v2 head f e z n r = record { room = r; sendable = rw z (sendable s a (f .address) (sym (ap (λ (h : HeadV2). h .address) e) ∙ z) n) }
-
--- a letter is no digit
-no-digit : (b : ℕ) → isLetter b ≡ true → isDigit b ≡ true → ⊥
-unfolding isLetter
-no-digit b l d =
-    let h = within-true 48 57 b d in
-    absurd (true≢false (sym l ∙ rw (within-below 65 90 b (omega arith), within-below 97 122 b (omega arith))))
-
--- a V1 frame has at most twelve bytes
-pub v1-short : (s : List ℕ) → Framed s → isLetter (at s 3) ≡ true → length s ≤ 12
-unfolding misshapen lengthFits
-v1-short s f l =
-    each (λ (x : Bool). x ≡ false → length s ≤ 12) _ _ _ (λ _ e. absurd (true≢false e))
-    (λ t _.
-    each (λ (x : Bool). x ≡ true → length s ≤ 12) _ _ _ (λ d _. absurd (no-digit (at s 3) l d)) (λ _. each (λ (x : Bool). x ≡ true → length s ≤ 12) _ _ _ (λ _ e. within-true 6 12 (length s) e .1) (λ _ e. absurd (false≢true e))) (not-false _ t))
-    (f .shape)
+  pub fits-v2 : (head : HeadV2) → head ≡ headV2 s → isLetter (at s 3) ≡ false → Fits (SendableV2 head []) m
+  fits-v2 head e l = record { room = r; sendable = rw e (head-read-v2 s f l) }

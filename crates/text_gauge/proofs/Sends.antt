@@ -10,10 +10,9 @@ use Rattle.buffer.proofs.Rules.{each}
 use Rattle.frames.specs.declared.HeadV1.{HeadV1}
 use Rattle.frames.specs.declared.HeadV2.{HeadV2}
 use Rattle.frame_writer.specs.Written.{frameV1, frameV2, writtenV1, writtenV2}
-use Rattle.frame_writer.specs.Error.{errorBytes, errorDataV1}
-use Rattle.frame_writer.specs.declared.ErrorText.{ErrorText}
-use Rattle.frame_writer.specs.declared.ErrorText.the-variants.{Length, Logic, NoDef, Syntax, Range, Error1}
 use Rattle.frame_writer.proofs.Laws as laws
+use Rattle.frames_facts.specs.ReadBack.{SendableV1, SendableV2}
+use Rattle.frames_facts.specs.Accepted.{sendable-exactly-v1, sendable-exactly-v2}
 use Rattle.decimal.specs.declared.Number.{Number}
 use Rattle.readings.specs.Measure.{sixOf, roundedText, measureText}
 use Rattle.readings.specs.declared.Pressure.{Pressure}
@@ -22,39 +21,29 @@ use Rattle.requests.specs.declared.RequestV1.{RequestV1}
 use Rattle.requests.specs.declared.RequestV1.the-variants.{Measure, ReadFactor, Unlock, SetFactor, ReadUnit, SetUnit}
 use Rattle.gauge_rules.specs.State.{State}
 use Rattle.gauge_rules_v1.specs.RulesV1.{textV1}
-use Rattle.text_gauge.specs.Inner.{Fits}
 
 -- the answer `a` with another number
 pub renumbered : (m m′ t : List ℕ) (k : ℕ) (w : Written) → Sent m (record { number = 0; reply = t }) m′ w → Sent m (record { number = k; reply = t }) m′ (record { number = k; len = w .len })
 renumbered m m′ t k w h = record { number = refl; len = h .len; memory = h .memory }
 
 -- a V2 frame with at most 24 data
-pub sent-v2 : (m m′ : List ℕ) (h : HeadV2) (bytes : List ℕ) (w : Written) → Fits (h .address) m → length bytes ≤ 24 → Sent m (writtenV2 (length m) h bytes) m′ w
+pub sent-v2 : (m m′ : List ℕ) (h : HeadV2) (bytes : List ℕ) (w : Written) → 64 ≤ length m → SendableV2 h bytes → length bytes ≤ 24 → Sent m (writtenV2 (length m) h bytes) m′ w
     → Sent m (record { number = 0; reply = frameV2 h bytes }) m′ w
-sent-v2 m m′ h bytes w f n s = laws.sent-v2 m m′ bytes w h (omega (arith, f .room)) (omega arith) (f .sendable) s
+sent-v2 m m′ h bytes w r ok n s =
+    let c = sendable-exactly-v2 h bytes .0 ok in
+    laws.sent-v2 m m′ bytes w h (omega arith) (c .0) (c .1) s
 
--- a V1 frame with at most six
-pub sent-v1 : (m m′ : List ℕ) (h : HeadV1) (bytes : List ℕ) (w : Written) → Fits (h .address) m → length bytes ≤ 6 → Sent m (writtenV1 (length m) h bytes) m′ w
+-- a V1 frame
+pub sent-v1 : (m m′ : List ℕ) (h : HeadV1) (bytes : List ℕ) (w : Written) → 64 ≤ length m → SendableV1 h bytes → Sent m (writtenV1 (length m) h bytes) m′ w
     → Sent m (record { number = 0; reply = frameV1 h bytes }) m′ w
-sent-v1 m m′ h bytes w f n s = laws.sent-v1 m m′ bytes w h (omega (arith, f .room)) n (f .sendable) s
+sent-v1 m m′ h bytes w r ok s =
+    let c = sendable-exactly-v1 h bytes .0 ok in
+    laws.sent-v1 m m′ bytes w h (omega (arith, ok .few)) (c .0) (c .1) s
 
 -- ---- lengths of data
 
-pub error-le : (e : ErrorText) → length (errorBytes e) ≤ 6
-unfolding errorBytes
-error-le Length = omega arith
-error-le Logic = omega arith
-error-le NoDef = omega arith
-error-le Syntax = omega arith
-error-le Range = omega arith
-error-le Error1 = omega arith
-
 abbrev Six : List ℕ → Type 0
 Six l = length l ≤ 6
-
-pub error-v1-le : (k : ℕ) → length (errorDataV1 k) ≤ 6
-unfolding errorDataV1
-error-v1-le k = each Six _ _ _ (λ _. omega arith) (λ _. each Six _ _ _ (λ _. error-le Range) (λ _. each Six _ _ _ (λ _. omega arith) (λ _. error-le Logic)))
 
 rounded-le : (n : Number) → length (roundedText n) ≤ 6
 unfolding roundedText sixOf

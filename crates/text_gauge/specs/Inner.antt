@@ -1,12 +1,11 @@
 -- What inner functions promise; no public contract cites this file. Assumes nothing.
 use mathlib.Core.Path.{_≡_}
-use mathlib.Core.Bool.{true, false}
+use mathlib.Core.Bool.{false}
 use mathlib.Core.List.{List, [], _∷_}
 use Prim.Native.Nat.{ℕ, _≤_}
 use lib.Dec.{eqb}
 use lib.ListN.{length}
 use Rattle.buffer.specs.First.{_⇒_, first}
-use Rattle.buffer.specs.Byte.{within}
 use Rattle.buffer.specs.Answer.{Answer, Sent}
 use Rattle.frames.specs.declared.HeadV1.{HeadV1}
 use Rattle.frames.specs.declared.HeadV2.{HeadV2}
@@ -21,10 +20,10 @@ use Rattle.gauge_rules_v1.specs.RulesV1.{grantV1, textV1, repeats, unlocks, ent
 use Rattle.gauge_table.specs.Reply.{errorV2, errorV1, answerHead}
 use Rattle.text_gauge.specs.declared.Answered.{Answered}
 
--- room for any reply, and an address that a frame can hold
-pub record Fits (address : ℕ) (memory : List ℕ) : Type 0 where
+-- room for any reply, and a head that can be sent
+pub record Fits (Head : Type 0) (memory : List ℕ) : Type 0 where
   pub room : 64 ≤ length memory
-  pub sendable : within 1 999 address ≡ true
+  pub sendable : Head
 
 -- a typed request, decided: its answer and the state afterwards
 unfoldable pub answerV2 : State → HeadV2 → AskV2 → Answer

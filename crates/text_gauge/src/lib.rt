@@ -1,13 +1,17 @@
 // The simulated text gauge: any bytes answered in lent memory, V1 and V2 from one set of settings; its bench and its stream line.
 ghost use mathlib.Core.Path.{_≡_};
+ghost use mathlib.Core.Bool.{true};
 ghost use mathlib.Core.List.{[], _∷_};
 ghost use Prim.Native.Nat.{_≤_};
 ghost use lib.ListN.{length};
+ghost use Rattle.buffer.specs.Byte.{isDigit};
 ghost use Rattle.buffer.specs.Text.{textOf};
 ghost use Rattle.buffer.specs.Answer.{Sent};
 ghost use Rattle.sources.specs.Source.{listOf};
 ghost use Rattle.settings.specs.Settings.{held};
 ghost use Rattle.frame_writer.specs.Written.{frameV1, frameV2};
+ghost use Rattle.frames_facts.specs.ReadBack.{SendableV1, SendableV2};
+ghost use Rattle.printed_facts.specs.Printed.{Printed};
 ghost use Rattle.buffer.specs.First.{_⇒_, first};
 ghost use Rattle.gauge_rules.specs.State.{stateOf};
 ghost use Rattle.gauge_rules_v1.specs.RulesV1.{textV1, repeats};
@@ -35,7 +39,7 @@ pub const ROOM: usize = 64;
 
 // Writes the error frame that answers a V2 request.
 fn refuse_v2(out: &mut [u8], head: frames::HeadV2, number: u8) -> buffer::Written
-    requires { ⌜ Fits (head .address) (now out) ⌝ }
+    requires { ⌜ Fits (SendableV2 head []) (now out) ⌝ }
     ensures { λ r. ⌜ Sent (now (out .entry)) (record { number = number; reply = errorV2 number head }) (now (out .exit)) r ⌝ }
 {
     let w = frame_writer::write_error_v2(out, head, number);
@@ -47,7 +51,8 @@ fn refuse_v2(out: &mut [u8], head: frames::HeadV2, number: u8) -> buffer::Writte
 
 // Writes the reply to an accepted V2 request: its access code and its data.
 fn reply_v2(out: &mut [u8], head: frames::HeadV2, access: u8, text: buffer::Text) -> buffer::Written
-    requires { ⌜ Fits (head .address) (now out) ⌝ }
+    requires { ⌜ Fits (SendableV2 head []) (now out) ⌝ }
+    requires { ⌜ (isDigit access ≡ true) × Printed (textOf text) ⌝ }
     ensures { λ r. ⌜ Sent (now (out .entry)) (record { number = 0; reply = frameV2 (answerHead head access) (textOf text) }) (now (out .exit)) r ⌝ }
 {
     let answer = frames::HeadV2 {
@@ -61,7 +66,7 @@ fn reply_v2(out: &mut [u8], head: frames::HeadV2, access: u8, text: buffer::Text
 
 // Writes the error frame that answers a V1 request.
 fn refuse_v1(out: &mut [u8], head: frames::HeadV1, number: u8) -> buffer::Written
-    requires { ⌜ Fits (head .address) (now out) ⌝ }
+    requires { ⌜ Fits (SendableV1 head []) (now out) ⌝ }
     ensures { λ r. ⌜ Sent (now (out .entry)) (record { number = number; reply = errorV1 number head }) (now (out .exit)) r ⌝ }
 {
     let w = frame_writer::write_error_v1(out, head, number);
@@ -73,8 +78,8 @@ fn refuse_v1(out: &mut [u8], head: frames::HeadV1, number: u8) -> buffer::Writte
 
 // Writes the reply to an accepted V1 request that reads.
 fn reply_v1(out: &mut [u8], head: frames::HeadV1, text: buffer::Text) -> buffer::Written
-    requires { ⌜ Fits (head .address) (now out) ⌝ }
-    requires { ⌜ length (textOf text) ≤ 6 ⌝ }
+    requires { ⌜ Fits (SendableV1 head []) (now out) ⌝ }
+    requires { ⌜ Printed (textOf text) × (length (textOf text) ≤ 6) ⌝ }
     ensures { λ r. ⌜ Sent (now (out .entry)) (record { number = 0; reply = frameV1 head (textOf text) }) (now (out .exit)) r ⌝ }
 {
     frame_writer::write_text_v1(out, head, text)
@@ -107,7 +112,7 @@ fn answer_v2(
     asked: requests::AskedV2,
     out: &mut [u8],
 ) -> Answered
-    requires { ⌜ Fits (head .address) (now out) ⌝ }
+    requires { ⌜ Fits (SendableV2 head []) (now out) ⌝ }
     ensures { λ r. ⌜ AnswersV2 (stateOf g) head (asked .ask) (listOf (asked .sources)) (now (out .entry)) (now (out .exit)) r ⌝ }
 {
     let ask = asked.ask;
@@ -145,7 +150,7 @@ fn granted_v1(
     asks: requests::RequestV1,
     out: &mut [u8],
 ) -> buffer::Written
-    requires { ⌜ Fits (head .address) (now out) ⌝ }
+    requires { ⌜ Fits (SendableV1 head []) (now out) ⌝ }
     requires { ⌜ length (now request) ≤ 12 ⌝ }
     ensures { λ r. ⌜ Sent (now (out .entry)) (record { number = 0; reply = first (repeats asks ⇒ now (request .entry) ∷ []) (frameV1 head (textV1 (stateOf g) asks)) }) (now (out .exit)) r ⌝ }
 {
@@ -164,7 +169,7 @@ fn answer_v1(
     ask: requests::AskV1,
     out: &mut [u8],
 ) -> Answered
-    requires { ⌜ Fits (head .address) (now out) ⌝ }
+    requires { ⌜ Fits (SendableV1 head []) (now out) ⌝ }
     requires { ⌜ length (now request) ≤ 12 ⌝ }
     ensures { λ r. ⌜ AnswersV1 (stateOf g) (now (request .entry)) head ask (now (out .entry)) (now (out .exit)) r ⌝ }
 {

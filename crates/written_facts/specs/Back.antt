@@ -16,7 +16,7 @@ use Rattle.buffer.proofs.Rules.{each}
 use Rattle.frames.specs.Frame.{isLetter, dataFrom, frameOf}
 use Rattle.frames.specs.declared.Frame.the-variants as frame
 use Rattle.frame_writer.specs.Written.{frameV1, frameV2}
-use Rattle.frames_facts.specs.ReadBack.{SendableV2, ReadV2, read-back-v2, SendableV1, ReadV1, read-back-v1}
+use Rattle.frames_facts.specs.ReadBack.{ReadV2, read-back-v2, ReadV1, read-back-v1}
 use Rattle.sources.specs.Source.{mostEntries, listOf}
 use Rattle.sources.specs.declared.Sources.{Sources}
 use Rattle.settings.specs.Limits.{standard}
@@ -38,11 +38,10 @@ use Rattle.requests.specs.declared.AskV2.the-variants.{For, Refused}
 use Rattle.requests.specs.declared.RequestV1.{RequestV1}
 use Rattle.requests.specs.declared.RequestV1.the-variants.{Measure, ReadFactor, Unlock, SetFactor, ReadUnit, SetUnit}
 use Rattle.request_texts.specs.RequestText.{accessOf, commandIn, headFor, dataV2, headForV1, letterV1, dataV1}
-use Rattle.printed_facts.specs.Printed.{data-v2-printed, data-v1-printed}
 use Rattle.printed_facts.specs.Fits.{read-le}
+use Rattle.printed_facts.specs.Sendable.{request-sendable-v2, request-sendable-v1}
 use Rattle.request_writer.specs.Typed.{typedVerdict, formedV2, formedV1}
 use Rattle.request_writer.specs.Written.{sentV2, requestWrittenV2, requestWrittenV1}
-use Rattle.request_writer.proofs.Laws.{data-v1-le}
 use Rattle.request_reader.specs.Decoded.{fromV2, judgedV1, fromV1, fromFrame, requestOf, listFrom, requestList}
 use Rattle.request_reader.specs.declared.Request.the-variants.{V1, V2}
 use Rattle.written_facts.specs.Same.{SameV2, SameSetting, SameList, Sized}
@@ -50,27 +49,6 @@ use Rattle.written_facts.specs.Lemmas.Typed.{ListFits, Told, told}
 use Rattle.written_facts.specs.Lemmas.Asked.{read-asked, restore-asked, set-asked, list-asked, Written, asked-v1}
 
 -- ---- V2: the frame
-
-command-printed : (c : Command) → (within 32 126 (at (commandText c) 0) ≡ true) × (within 32 126 (at (commandText c) 1) ≡ true)
-unfolding commandText bytes within
-command-printed MV = (refl, refl)
-command-printed T2 = (refl, refl)
-command-printed FN = (refl, refl)
-command-printed FS = (refl, refl)
-command-printed (Of DA) = (refl, refl)
-command-printed (Of DU) = (refl, refl)
-command-printed (Of C1) = (refl, refl)
-command-printed (Of CM) = (refl, refl)
-command-printed (Of CC) = (refl, refl)
-command-printed (Of FC) = (refl, refl)
-command-printed (Of ST) = (refl, refl)
-command-printed (Of SM) = (refl, refl)
-
-access-digit : (r : RequestV2) → isDigit (accessOf r) ≡ true
-unfolding accessOf within
-access-digit (Read c) = refl
-access-digit (Restore c) = refl
-access-digit (Set x) = refl
 
 -- a list that fits beside a request
 abbrev pub Fits : RequestV2 → List ℕ → Type 0
@@ -97,17 +75,7 @@ data-le (Set y) list k = omega (arith, read-le (putOf factory y list) (put-few y
 
 -- the frame of a request is read as its head and its data
 pub framed-v2 : (address : ℕ) (r : RequestV2) (list : List ℕ) → within 1 999 address ≡ true → Fits r list → ReadV2 (headFor address r) (dataV2 r list)
-unfolding headFor
-framed-v2 address r list a k =
-    read-back-v2 _ _
-    (record {
-      address-in = a;
-      access-in = access-digit r;
-      first-in = command-printed (commandIn r) .0;
-      second-in = command-printed (commandIn r) .1;
-      bytes-in = data-v2-printed r list;
-      few = data-le r list k;
-    })
+framed-v2 address r list a k = read-back-v2 _ _ (request-sendable-v2 address r list a (data-le r list k))
 
 -- ---- V2: the request
 
@@ -212,17 +180,8 @@ request-again-v2 room address r q h z =
 
 -- ---- V1
 
-letter-in : (r : RequestV1) → isLetter (letterV1 r) ≡ true
-unfolding isLetter letterV1 within
-letter-in Measure = refl
-letter-in ReadFactor = refl
-letter-in Unlock = refl
-letter-in (SetFactor n) = refl
-letter-in ReadUnit = refl
-letter-in (SetUnit u) = refl
-
 pub framed-v1 : (address : ℕ) (r : RequestV1) → within 1 999 address ≡ true → ReadV1 (headForV1 address r) (dataV1 r)
-framed-v1 address r a = read-back-v1 _ _ (record { address-in = a; letter-in = letter-in r; bytes-in = data-v1-printed r; few = data-v1-le r })
+framed-v1 address r a = read-back-v1 _ _ (request-sendable-v1 address r a)
 
 -- a request that is formed has its number within the limits
 pub formed-written : (r : RequestV1) → formedV1 r ≡ 0 → Written r

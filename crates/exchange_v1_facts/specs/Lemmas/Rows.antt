@@ -18,15 +18,16 @@ use Rattle.frames.specs.declared.Frame.the-variants.{V1}
 use Rattle.frame_writer.specs.Written.{frameV1}
 use Rattle.frame_writer.specs.Error.{errorBytes}
 use Rattle.frame_writer.specs.declared.ErrorText.the-variants.{Logic, NoDef, Range}
+use Rattle.frames_facts.specs.Shape.{Framed, Tells, tells}
 use Rattle.frames_facts.specs.ReadBack.{SendableV1, read-back-v1}
 use Rattle.requests.specs.declared.RequestV1.{RequestV1}
 use Rattle.requests.specs.declared.RequestV1.the-variants.{Measure, ReadFactor, Unlock, SetFactor, ReadUnit, SetUnit}
 use Rattle.request_texts.specs.RequestText.{letterV1, headForV1}
+use Rattle.printed_facts.specs.Sendable as printed
 use Rattle.replies_v1.specs.ReplyV1.{notV1, otherAddress, otherLetter, errorAt, valueV1, readV1}
 use Rattle.replies_v1.specs.declared.ReadV1.{ReadV1}
 use Rattle.replies_v1.specs.declared.ReadV1.the-variants.{Read, Refused}
 use Rattle.replies_v1.specs.declared.ReplyV1.the-variants.{Error}
-use Rattle.gauge_table.specs.Numbers.{Framed, Tells, tells}
 
 -- ---- a frame with this letter and these data
 
@@ -83,16 +84,7 @@ frame-read a l r d ok =
 
 -- ---- the request's letter with digits
 
-pub letter-is : (r : RequestV1) → isLetter (letterV1 r) ≡ true
-unfolding isLetter letterV1 within
-letter-is Measure = refl
-letter-is ReadFactor = refl
-letter-is Unlock = refl
-letter-is (SetFactor n) = refl
-letter-is ReadUnit = refl
-letter-is (SetUnit u) = refl
-
--- it is not `N`
+-- the request's letter is not `N`
 pub no-N : (r : RequestV1) → eqb (letterV1 r) 78 ≡ false
 unfolding letterV1
 no-N Measure = refl
@@ -135,5 +127,5 @@ digits-rest r d e =
 -- digits that come with the request's letter, from the address that was asked, are read as its value
 pub digits-read : (a : ℕ) (r : RequestV1) (d : List ℕ) → within 1 999 a ≡ true → every isDigit d ≡ true → length d ≤ 6 → readV1 a r (frameV1 (headForV1 a r) d) ≡ valueV1 r d
 digits-read a r d i e few =
-    let ok : SendableV1 (headForV1 a r) d = record { address-in = i; letter-in = letter-is r; bytes-in = digits-print d e; few = few } in
+    let ok : SendableV1 (headForV1 a r) d = record { address-in = i; letter-in = printed.letter-in r; bytes-in = digits-print d e; few = few } in
     frame-read a (letterV1 r) r d ok ∙ digits-rest r d e

@@ -1,14 +1,14 @@
 -- A V2 frame that is written in answer to a request is read by what its head and its data are. Assumes nothing.
 use mathlib.Core.Path.{_≡_, refl, sym, _∙_}
 use mathlib.Core.Bool.{true, false, not, and-false}
-use mathlib.Core.List.{List}
+use mathlib.Core.List.{List, []}
 use Prim.Native.Nat.{ℕ, _+_, _≤_}
 use native.Mathlib.Omega.{arith}
 use borrow.Author.Tests.{eq-eqb}
 use lib.Dec.{eqb}
 use lib.ListN.{length}
 use Rattle.buffer.specs.First.{pick}
-use Rattle.buffer.specs.Byte.{at, within, isDigit, sameText}
+use Rattle.buffer.specs.Byte.{at, within, isDigit, every, sameText}
 use Rattle.buffer.specs.Quoted.{bytes}
 use Rattle.frames.specs.Checksum.{closed}
 use Rattle.frames.specs.Frame.{dataFrom}
@@ -31,9 +31,11 @@ use Rattle.replies_v2_values.specs.declared.ReadV2.the-variants.{Read}
 use Rattle.replies_v2.specs.ReplyV2.{otherAccess, otherCommand, mismatched, errorReply, dataReply, readV2, bodyReply}
 use Rattle.replies_v2.proofs.Laws.{viaFrame, at-frame}
 use Rattle.printed_facts.specs.Printed.{Printed, error-printed}
+use Rattle.printed_facts.specs.Fits.{error-le}
+use Rattle.printed_facts.specs.Sendable.{head-sendable-v2}
 use Rattle.gauge_rules.specs.RulesV2.{answerCode}
 use Rattle.gauge_table.specs.Reply.{answerHead}
-use Rattle.gauge_facts.specs.Lengths.{error-le}
+use Rattle.gauge_table.specs.Sendable.{code-digit, answer-sendable}
 
 -- a written frame, with the address that was asked, is read by its head and its data
 pub by-head : (a : ℕ) (r : RequestV2) (h : HeadV2) (s : List ℕ) → h .address ≡ a → SendableV2 h s → (readV2 a r (frameV2 h s) ≡ bodyReply r h s) × (dataFrom 8 (frameV2 h s) ≡ s)
@@ -45,42 +47,10 @@ by-head a r h s e ok =
 
 -- ---- heads
 
--- the two characters of a command
-first-printed : (c : Command) → within 32 126 (at (commandText c) 0) ≡ true
-unfolding commandText bytes within
-first-printed MV = refl
-first-printed T2 = refl
-first-printed FN = refl
-first-printed FS = refl
-first-printed (Of DA) = refl
-first-printed (Of DU) = refl
-first-printed (Of C1) = refl
-first-printed (Of CM) = refl
-first-printed (Of CC) = refl
-first-printed (Of FC) = refl
-first-printed (Of ST) = refl
-first-printed (Of SM) = refl
-
-second-printed : (c : Command) → within 32 126 (at (commandText c) 1) ≡ true
-unfolding commandText bytes within
-second-printed MV = refl
-second-printed T2 = refl
-second-printed FN = refl
-second-printed FS = refl
-second-printed (Of DA) = refl
-second-printed (Of DU) = refl
-second-printed (Of C1) = refl
-second-printed (Of CM) = refl
-second-printed (Of CC) = refl
-second-printed (Of FC) = refl
-second-printed (Of ST) = refl
-second-printed (Of SM) = refl
-
 -- a reply with the request's address and command can be sent
 sendable : (a : ℕ) (r : RequestV2) (code : ℕ) (s : List ℕ) → within 1 999 a ≡ true → isDigit code ≡ true → Printed s → length s ≤ 99 → SendableV2 (answerHead (headFor a r) code) s
-unfolding headFor
-sendable a r code s i d p l =
-    record { address-in = i; access-in = d; first-in = first-printed (commandIn r); second-in = second-printed (commandIn r); bytes-in = p; few = l }
+unfolding every
+sendable a r code s i d p l = answer-sendable (headFor a r) code s (head-sendable-v2 a r [] i refl (omega arith)) d p l
 
 -- the command is the one that was asked
 same-command : (a : ℕ) (r : RequestV2) (code : ℕ) → otherCommand r (answerHead (headFor a r) code) ≡ false
@@ -91,20 +61,20 @@ same-command a r code =
 -- ---- replies to accepted requests
 
 -- "read 0 is answered by 1, write 2 by 3, factory default 4 by 5"
-answer-code : (r : RequestV2) → (isDigit (answerCode r) ≡ true) × (otherAccess r (answerCode r) ≡ false) × (eqb (answerCode r) 55 ≡ false)
-unfolding answerCode accessOf otherAccess within
-answer-code (request.Read c) = (refl, refl, refl)
-answer-code (request.Restore c) = (refl, refl, refl)
-answer-code (request.Set x) = (refl, refl, refl)
+answer-code : (r : RequestV2) → (otherAccess r (answerCode r) ≡ false) × (eqb (answerCode r) 55 ≡ false)
+unfolding answerCode accessOf otherAccess
+answer-code (request.Read c) = (refl, refl)
+answer-code (request.Restore c) = (refl, refl)
+answer-code (request.Set x) = (refl, refl)
 
 pub accepted-read : (a : ℕ) (r : RequestV2) (s : List ℕ) → within 1 999 a ≡ true → Printed s → length s ≤ 99
     → (readV2 a r (frameV2 (answerHead (headFor a r) (answerCode r)) s) ≡ dataReply r s) × (dataFrom 8 (frameV2 (answerHead (headFor a r) (answerCode r)) s) ≡ s)
 unfolding headFor bodyReply mismatched pick
 accepted-read a r s i p l =
     let c = answer-code r in
-    let h = by-head a r (answerHead (headFor a r) (answerCode r)) s refl (sendable a r (answerCode r) s i (c .0) p l) in
+    let h = by-head a r (answerHead (headFor a r) (answerCode r)) s refl (sendable a r (answerCode r) s i (code-digit r) p l) in
     let m = same-command a r (answerCode r) in
-    (h .0 ∙ rw (c .1, m, c .2), h .1)
+    (h .0 ∙ rw (c .0, m, c .1), h .1)
 
 -- ---- replies to refused requests
 

@@ -6,6 +6,7 @@ use Rattle.buffer.proofs.Laws.{refuses}
 use Rattle.request_texts.specs.RequestText.{headFor}
 use Rattle.frame_writer.proofs.Laws.{sent-v2}
 use Rattle.request_writer.specs.Written.{sentV2}
+use Rattle.request_writer.proofs.Laws.{carried-v2}
 use Rattle.request_writer.proofs.send_v2.Statement.{statement}
 use Rattle.request_writer.proofs.send_v2.Tie as tie
 
@@ -17,8 +18,9 @@ returns-2 c =
     let put = head .before .before in
     let ask = put .before .before in
     let begin = ask .before .before .before in
-    rw (ask .ask2 .given .1, ← (put .data-v2 .ensures))
-    (sent-v2 _ _ _ _ _ (omega (arith, begin .pre .0, w .1)) (omega (arith, w .1)) (begin .pre .1) (rw (head .head-for .ensures) at (w .0)))
+    let d = put .data-v2 .ensures in
+    rw (ask .ask2 .given .1, ← d)
+    (sent-v2 _ _ _ _ _ (omega (arith, begin .pre .0, w .1)) (carried-v2 _ _ _ _ (begin .pre .1) d (omega (arith, w .1))) (begin .pre .1) (rw (head .head-for .ensures) at (w .0)))
 
 pub send-v2-spec : {M : Type 1} → statement M
 unfolding sentV2

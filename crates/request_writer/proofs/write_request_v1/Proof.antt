@@ -5,8 +5,10 @@ use borrow.Author.Tests.{not-true, not-false}
 use borrow.Author.Needs.{needs}
 use Rattle.buffer.proofs.Laws.{refuses}
 use Rattle.frame_writer.proofs.Laws.{sent-v1}
+use Rattle.frames_facts.specs.Accepted.{sendable-exactly-v1}
+use Rattle.printed_facts.specs.Sendable.{data-v1-le, request-sendable-v1}
 use Rattle.request_writer.specs.Typed.{formedV1}
-use Rattle.request_writer.proofs.Laws.{data-v1-le, no-room-v1, outside-v1, refused-v1, sent-is-v1}
+use Rattle.request_writer.proofs.Laws.{no-room-v1, outside-v1, refused-v1, sent-is-v1}
 use Rattle.request_writer.proofs.write_request_v1.Statement.{statement}
 use Rattle.request_writer.proofs.write_request_v1.Tie as tie
 
@@ -34,8 +36,9 @@ returns-4 c =
     let a = e1 .before .before .args in
     let inside = sym (e2 .before .is-address .ensures) ∙ not-false _ (e2 .if2 .left) in
     let n = data-v1-le (a .request) in
+    let ok = sendable-exactly-v1 _ _ .0 (request-sendable-v1 (a .address) (a .request) inside) in
     rw (sent-is-v1 _ (a .address) (a .request) (e1 .if1 .left) inside (sym (number .formed-v1 .ensures) ∙ e3 .if3 .left))
-    (sent-v1 _ _ _ _ _ (omega (arith, e1 .if1 .left)) n inside (rw (put .data-v1 .ensures, letter .letter-v1 .ensures) at (c .before .before .write-text-v1 .ensures)))
+    (sent-v1 _ _ _ _ _ (omega (arith, e1 .if1 .left)) (ok .0) inside (rw (put .data-v1 .ensures, letter .letter-v1 .ensures) at (c .before .before .write-text-v1 .ensures)))
 
 pub write-request-v1-spec : {M : Type 1} → statement M
 write-request-v1-spec =

@@ -1,12 +1,12 @@
 -- `gauge::answer` meets its contract. Assumes nothing.
-use mathlib.Core.List.{[]}
 use mathlib.Core.Path.{sym, _∙_}
 use native.Mathlib.Omega.{arith}
 use borrow.Author.Needs.{needs}
 use borrow.Author.Tests.{lt-ltb, le-ltb}
 use Rattle.buffer.proofs.Laws.{within-in}
+use Rattle.frames_facts.specs.Shape.{six-to-twelve}
 use Rattle.gauge_table.specs.Numbers.{number-5}
-use Rattle.text_gauge.proofs.Compose.{tells-at, no-room, silent-answers, v1-answers, v2-answers, length-answers, other-v1, own-v1, other-v2, own-v2, fits-v1, fits-v2, v1-short}
+use Rattle.text_gauge.proofs.Compose.{tells-at, numbered-at, no-room, silent-answers, v1-answers, v2-answers, length-answers, other-v1, own-v1, other-v2, own-v2, fits-v1, fits-v2}
 use Rattle.text_gauge.proofs.answer.Statement.{statement}
 use Rattle.text_gauge.proofs.answer.Tie as tie
 
@@ -17,56 +17,56 @@ returns c = silent-answers _ _ _ 1 _ (no-room _ _ _ (lt-ltb _ 64 (c .before .if1
 returns-2 : tie.Need-returns-2
 returns-2 c =
     let t = tells-at _ _ (sym (c .before .before .before .before .head .given .1) ∙ c .before .before .before .before .before .before .read-frame .ensures) in
-    silent-answers _ _ _ 5 _ (number-5 _ _ _ (le-ltb _ 64 (c .before .before .before .before .before .before .before .before .before .if1 .left)) (t .0) (other-v1 _ [] _ _ (t .2) (c .before .if2 .taken))) (within-in 1 5 5 (omega arith) (omega arith)) (c .silent3 .ensures)
+    silent-answers _ _ _ 5 _ (number-5 _ _ _ (le-ltb _ 64 (c .before .before .before .before .before .before .before .before .before .if1 .left)) (t .0) (other-v1 _ _ _ (t .2) (c .before .if2 .taken))) (within-in 1 5 5 (omega arith) (omega arith)) (c .silent3 .ensures)
 
 returns-3 : tie.Need-returns-3
 returns-3 c =
     let t = tells-at _ _ (sym (c .before .before .before .before .head2 .given .1) ∙ c .before .before .before .before .before .before .read-frame .ensures) in
-    silent-answers _ _ _ 5 _ (number-5 _ _ _ (le-ltb _ 64 (c .before .before .before .before .before .before .before .before .before .if1 .left)) (t .0) (other-v2 _ [] _ _ (t .3) (c .before .if3 .taken))) (within-in 1 5 5 (omega arith) (omega arith)) (c .silent4 .ensures)
+    silent-answers _ _ _ 5 _ (number-5 _ _ _ (le-ltb _ 64 (c .before .before .before .before .before .before .before .before .before .if1 .left)) (t .0) (other-v2 _ _ _ (t .3) (c .before .if3 .taken))) (within-in 1 5 5 (omega arith) (omega arith)) (c .silent4 .ensures)
 
 returns-4 : tie.Need-returns-4
 returns-4 c =
     let t = tells-at _ _ (sym (c .before .before .before .before .head3 .given .1) ∙ c .before .before .before .before .before .before .read-frame .ensures) in
-    silent-answers _ _ _ 5 _ (number-5 _ _ _ (le-ltb _ 64 (c .before .before .before .before .before .before .before .before .before .if1 .left)) (t .0) (other-v2 _ [] _ _ (t .3) (c .before .if4 .taken))) (within-in 1 5 5 (omega arith) (omega arith)) (c .silent5 .ensures)
+    silent-answers _ _ _ 5 _ (number-5 _ _ _ (le-ltb _ 64 (c .before .before .before .before .before .before .before .before .before .if1 .left)) (t .0) (other-v2 _ _ _ (t .3) (c .before .if4 .taken))) (within-in 1 5 5 (omega arith) (omega arith)) (c .silent5 .ensures)
 
 -- no frame
 returns-5 : tie.Need-returns-5
 returns-5 c =
-    let t = tells-at _ _ (sym (c .before .before .k .given .1) ∙ c .before .before .before .before .read-frame .ensures) in
+    let t = numbered-at _ _ (sym (c .before .before .k .given .1) ∙ c .before .before .before .before .read-frame .ensures) in
     silent-answers _ _ _ _ _ (t .1 _ _ (le-ltb _ 64 (c .before .before .before .before .before .before .before .if1 .left))) (t .0) (c .silent2 .ensures)
 
 -- V1
 answer-v1-requires : tie.Need-answer-v1-requires
 answer-v1-requires c κs =
     let t = tells-at _ _ (sym (c .before .before .before .before .before .before .head .given .1) ∙ c .before .before .before .before .before .before .before .before .read-frame .ensures) in
-    (fits-v1 _ _ _ _ (t .0) (t .2) (c .before .before .before .if2 .left) (omega arith) (c .before .before .before .before .before .before .before .before .before .before .before .if1 .left), v1-short _ (t .0) (t .1))
+    (fits-v1 _ _ (t .0) (c .before .before .before .before .before .before .before .before .before .before .before .if1 .left) _ (t .2) (t .1), six-to-twelve _ (t .0) (t .1) .1)
 
 returns-6 : tie.Need-returns-6
 returns-6 c =
     let t = tells-at _ _ (sym (c .before .before .before .before .before .before .before .before .before .head .given .1) ∙ c .before .before .before .before .before .before .before .before .before .before .before .read-frame .ensures) in
-    v1-answers _ _ _ _ _ (le-ltb _ 64 (c .before .before .before .before .before .before .before .before .before .before .before .before .before .before .if1 .left)) (t .0) (own-v1 _ [] _ _ (t .2) (c .before .before .before .before .before .before .if2 .left)) _ _ _ (t .1) (t .2) (c .before .before .before .before .before .data-from .ensures) (c .before .before .before .before .read-v1 .ensures) (c .before .before .answer-v1 .ensures)
+    v1-answers _ _ _ _ _ (le-ltb _ 64 (c .before .before .before .before .before .before .before .before .before .before .before .before .before .before .if1 .left)) (t .0) (own-v1 _ _ _ (t .2) (c .before .before .before .before .before .before .if2 .left)) _ _ _ (t .1) (t .2) (c .before .before .before .before .before .data-from .ensures) (c .before .before .before .before .read-v1 .ensures) (c .before .before .answer-v1 .ensures)
 
 -- a wrong LEN
 refuse-v2-requires : tie.Need-refuse-v2-requires
 refuse-v2-requires c κs =
     let t = tells-at _ _ (sym (c .before .before .before .before .head2 .given .1) ∙ c .before .before .before .before .before .before .read-frame .ensures) in
-    fits-v2 _ _ _ _ (t .0) (t .3) (c .before .if3 .left) (omega arith) (c .before .before .before .before .before .before .before .before .before .if1 .left)
+    fits-v2 _ _ (t .0) (c .before .before .before .before .before .before .before .before .before .if1 .left) _ (t .3) (t .1)
 
 returns-7 : tie.Need-returns-7
 returns-7 c =
     let t = tells-at _ _ (sym (c .before .before .before .before .before .before .before .before .head2 .given .1) ∙ c .before .before .before .before .before .before .before .before .before .before .read-frame .ensures) in
-    length-answers _ _ _ _ _ (le-ltb _ 64 (c .before .before .before .before .before .before .before .before .before .before .before .before .before .if1 .left)) (t .0) (own-v2 _ [] _ _ (t .3) (c .before .before .before .before .before .if3 .left)) _ _ (t .1) (t .2) (t .3) (c .same .ensures) (c .before .before .before .refuse-v2 .ensures)
+    length-answers _ _ _ _ _ (le-ltb _ 64 (c .before .before .before .before .before .before .before .before .before .before .before .before .before .if1 .left)) (t .0) (own-v2 _ _ _ (t .3) (c .before .before .before .before .before .if3 .left)) _ _ (t .1) (t .2) (t .3) (c .same .ensures) (c .before .before .before .refuse-v2 .ensures)
 
 -- V2
 answer-v2-requires : tie.Need-answer-v2-requires
 answer-v2-requires c κs =
     let t = tells-at _ _ (sym (c .before .before .before .before .before .before .head3 .given .1) ∙ c .before .before .before .before .before .before .before .before .read-frame .ensures) in
-    fits-v2 _ _ _ _ (t .0) (t .3) (c .before .before .before .if4 .left) (omega arith) (c .before .before .before .before .before .before .before .before .before .before .before .if1 .left)
+    fits-v2 _ _ (t .0) (c .before .before .before .before .before .before .before .before .before .before .before .if1 .left) _ (t .3) (t .1)
 
 returns-8 : tie.Need-returns-8
 returns-8 c =
     let t = tells-at _ _ (sym (c .before .before .before .before .before .before .before .before .before .head3 .given .1) ∙ c .before .before .before .before .before .before .before .before .before .before .before .read-frame .ensures) in
-    v2-answers _ _ _ _ _ (le-ltb _ 64 (c .before .before .before .before .before .before .before .before .before .before .before .before .before .before .if1 .left)) (t .0) (own-v2 _ [] _ _ (t .3) (c .before .before .before .before .before .before .if4 .left)) _ _ _ _ (t .1) (t .2) (t .3) (c .before .before .before .before .before .data-from2 .ensures) (c .before .before .before .before .read-v2 .ensures .ask) (c .before .before .before .before .read-v2 .ensures .list) (c .before .before .answer-v2 .ensures)
+    v2-answers _ _ _ _ _ (le-ltb _ 64 (c .before .before .before .before .before .before .before .before .before .before .before .before .before .before .if1 .left)) (t .0) (own-v2 _ _ _ (t .3) (c .before .before .before .before .before .before .if4 .left)) _ _ _ _ (t .1) (t .2) (t .3) (c .before .before .before .before .before .data-from2 .ensures) (c .before .before .before .before .read-v2 .ensures .ask) (c .before .before .before .before .read-v2 .ensures .list) (c .before .before .answer-v2 .ensures)
 
 pub answer-spec : {M : Type 1} → statement M
 answer-spec =

@@ -1,18 +1,19 @@
 -- Laws of sources, and of texts cut at each `D`. Assumes nothing.
-use mathlib.Core.Path.{_≡_, refl}
+use mathlib.Core.Path.{_≡_, refl, sym, _∙_}
 use mathlib.Core.Bool.{Bool, true, false, cond, _&&_, _||_}
 use mathlib.Core.List.{List, [], _∷_}
-use Prim.Native.Nat.{ℕ, zero, suc, _+_, _*_, _≤_}
+use Prim.Native.Nat.{ℕ, zero, suc, _+_, _*_, _≤_, _<_}
 use native.Mathlib.Numerals.{add-one}
 use native.Mathlib.Omega.{arith}
 use borrow.Author.Tests.{lt-leb, ne-eqb}
 use lib.Dec.{eqb, leb}
-use lib.ListN.{length, getD, take, length-append, length-take, drop}
+use lib.ListN.{length, getD, set, take, length-append, length-take, length-set, drop}
+use lib.Seq.{take-all}
 use Rattle.buffer.specs.Byte.{within, isDigit, every, untilOf, digit}
 use Rattle.buffer.specs.First.{pick}
 use Rattle.buffer.proofs.Rules.{each}
-use Rattle.buffer.proofs.Laws.{within-true}
-use Rattle.sources.specs.Source.{isSource, sourceText, listText, listOf}
+use Rattle.buffer.proofs.Laws.{within-true, filled, full}
+use Rattle.sources.specs.Source.{isSource, sourceText, listText, listOf, Counted, Pushed}
 use Rattle.sources.specs.declared.Sources.{Sources}
 use Rattle.sources.specs.Entries.{onto, parts, sourceTexts}
 
@@ -95,3 +96,15 @@ list-text-le (c ∷ cs) = simp length-append (omega (arith, source-text-le c, li
 pub list-few : (q : Sources) → length (q .codes) ≡ 7 → length (listOf q) ≤ 7
 unfolding listOf
 list-few q h = simp length-take (omega arith)
+
+-- ---- one source more
+
+pub pushed-full : (q : Sources) (code : ℕ) → length (q .codes) ≡ 7 → 7 ≤ q .count → Pushed q code (record { codes = q .codes; count = 7 })
+unfolding listOf Counted
+pushed-full q code h k =
+    let e : take 7 (q .codes) ≡ take (q .count) (q .codes) = take-all 7 (q .codes) (omega arith) ∙ sym (take-all (q .count) (q .codes) (omega arith)) in
+    record { list = e ∙ full (q .codes) (q .count) 7 code h k; count = omega (arith, length-take 7 (q .codes)) }
+
+pub pushed-in : (q : Sources) (code : ℕ) → length (q .codes) ≡ 7 → q .count < 7 → Pushed q code (record { codes = set (q .codes) (q .count) code; count = q .count + 1 })
+unfolding listOf Counted
+pushed-in q code h k = record { list = filled (q .codes) (q .count) 7 code h k; count = omega (arith, length-take (q .count + 1) (set (q .codes) (q .count) code), length-set (q .codes) (q .count) code) }

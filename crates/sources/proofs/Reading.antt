@@ -9,7 +9,7 @@ use lib.ListN.{length, take, drop, length-map}
 use lib.Seq.{drop-drop, take-all}
 use Rattle.buffer.specs.Byte.{every, untilOf}
 use Rattle.buffer.proofs.Laws.{drop-step, take-cut}
-use Rattle.sources.specs.Source.{sourceOf, knownSources, listOf}
+use Rattle.sources.specs.Source.{sourceOf, knownSources, listOf, Counted}
 use Rattle.sources.specs.Entries.{entriesOf, sourceTexts, isFormed, isKnown, codeOf, entriesNumber, entriesList, Lists}
 use Rattle.sources.specs.Inner.{Taken, Ran}
 use Rattle.sources.specs.declared.Run.{Run}
@@ -33,6 +33,7 @@ pub record Sofar (s : List ℕ) (run : Run) (left : List ℕ) : Type 0 where
   pub count : run .count + length (entriesOf left) ≡ length (entriesOf s)
   pub sources : take 7 (listOf (run .sources) ++ map codeOf (entriesOf left)) ≡ take 7 (map codeOf (entriesOf s))
   pub few : take 7 (listOf (run .sources)) ≡ listOf (run .sources)
+  pub counted : Counted (run .sources)
 
 pub next : {s left left′ : List ℕ} {run r : Run} (e : Source) → Sofar s run left → Taken run e r → entriesOf left ≡ e ∷ entriesOf left′ → Sofar s r left′
 unfolding every
@@ -41,8 +42,9 @@ next {s} {left} {left′} {run} {r} e f t h =
       formed = rw (t .formed, and-assoc (run .formed) (isFormed e) (every isFormed (entriesOf left′))) (rw h at (f .formed));
       known = rw (t .known, and-assoc (run .known) (isKnown e) (every isKnown (entriesOf left′))) (rw h at (f .known));
       count = omega (arith, t .count, f .count, ap length h);
-      sources = rw (t .sources, take-cut 7 (listOf (run .sources) ++ (codeOf e ∷ [])) (map codeOf (entriesOf left′)), append-assoc) (rw h at (f .sources));
-      few = rw (t .sources) (rw (append-nil, append-nil) at (take-cut 7 (listOf (run .sources) ++ (codeOf e ∷ [])) []));
+      sources = rw (t .sources .list, take-cut 7 (listOf (run .sources) ++ (codeOf e ∷ [])) (map codeOf (entriesOf left′)), append-assoc) (rw h at (f .sources));
+      few = rw (t .sources .list) (rw (append-nil, append-nil) at (take-cut 7 (listOf (run .sources) ++ (codeOf e ∷ [])) []));
+      counted = t .sources .count;
     }
 
 pub ended : {s : List ℕ} {run : Run} → Sofar s run [] → Ran s run
@@ -52,15 +54,16 @@ ended {s} {run} f =
       formed = sym (and-true (run .formed)) ∙ f .formed;
       known = sym (and-true (run .known)) ∙ f .known;
       count = omega (arith, f .count);
-      sources = sym (f .few) ∙ rw append-nil at (f .sources);
+      list = sym (f .few) ∙ rw append-nil at (f .sources);
+      counted = f .counted;
     }
 
 -- ---- what a reader answers
 
-pub denied : {s : List ℕ} (k : ℕ) {r : Listed} → entriesNumber s ≡ suc k → (r .number ≡ suc k) × (listOf (r .sources) ≡ []) → Lists s r
+pub denied : {s : List ℕ} (k : ℕ) {r : Listed} → entriesNumber s ≡ suc k → (r .number ≡ suc k) × (listOf (r .sources) ≡ []) × Counted (r .sources) → Lists s r
 unfolding entriesList
-denied k e f = record { number = f .0 ∙ sym e; list = rw (e, eqb·suc-zero) (f .1) }
+denied k e f = record { number = f .0 ∙ sym e; list = rw (e, eqb·suc-zero) (f .1); count = f .2 }
 
-pub granted : {s : List ℕ} {q : Sources} → entriesNumber s ≡ 0 → length (entriesOf s) ≤ 7 → listOf q ≡ take 7 (map codeOf (entriesOf s)) → Lists s (record { number = 0; sources = q })
+pub granted : {s : List ℕ} {q : Sources} → entriesNumber s ≡ 0 → length (entriesOf s) ≤ 7 → listOf q ≡ take 7 (map codeOf (entriesOf s)) → Counted q → Lists s (record { number = 0; sources = q })
 unfolding entriesList
-granted {s} e h f = record { number = sym e; list = rw e (f ∙ take-all 7 (map codeOf (entriesOf s)) (rw length-map h)) }
+granted {s} e h f n = record { number = sym e; list = rw e (f ∙ take-all 7 (map codeOf (entriesOf s)) (rw length-map h)); count = n }

@@ -7,7 +7,7 @@ use lib.Dec.{eqb, ltb}
 use lib.ListN.{length}
 use Rattle.buffer.specs.First.{_⇒_, first}
 use Rattle.buffer.specs.Byte.{at, every}
-use Rattle.sources.specs.Source.{sourceOf, knownSources, mostEntries, listOf}
+use Rattle.sources.specs.Source.{sourceOf, knownSources, mostEntries, listOf, Counted}
 use Rattle.sources.specs.declared.Listed.{Listed}
 use Rattle.sources.specs.declared.Source.{Source}
 use Rattle.sources.specs.declared.Source.the-variants.{Known, Unknown, Malformed}
@@ -70,3 +70,4 @@ entriesList s = cond (eqb (entriesNumber s) 0) (map codeOf (entriesOf s)) []
 pub record Lists (s : List ℕ) (r : Listed) : Type 0 where
   pub number : r .number ≡ entriesNumber s
   pub list : listOf (r .sources) ≡ entriesList s
+  pub count : Counted (r .sources)

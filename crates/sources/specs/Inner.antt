@@ -1,11 +1,11 @@
 -- What inner functions promise; no public contract cites this file. Assumes nothing.
 use mathlib.Core.Path.{_≡_}
 use mathlib.Core.Bool.{_&&_}
-use mathlib.Core.List.{List, [], _∷_, _++_, map}
+use mathlib.Core.List.{List, map}
 use Prim.Native.Nat.{ℕ, _+_}
 use lib.ListN.{length, take}
 use Rattle.buffer.specs.Byte.{every}
-use Rattle.sources.specs.Source.{mostEntries, listOf}
+use Rattle.sources.specs.Source.{mostEntries, listOf, Counted, Pushed}
 use Rattle.sources.specs.Entries.{entriesOf, isFormed, isKnown, codeOf}
 use Rattle.sources.specs.declared.Run.{Run}
 use Rattle.sources.specs.declared.Source.{Source}
@@ -15,11 +15,12 @@ pub record Taken (run : Run) (e : Source) (r : Run) : Type 0 where
   pub formed : r .formed ≡ (run .formed && isFormed e)
   pub known : r .known ≡ (run .known && isKnown e)
   pub count : r .count ≡ run .count + 1
-  pub sources : listOf (r .sources) ≡ take mostEntries (listOf (run .sources) ++ (codeOf e ∷ []))
+  pub sources : Pushed (run .sources) (codeOf e) (r .sources)
 
 -- r is all entries of a text
 pub record Ran (s : List ℕ) (r : Run) : Type 0 where
   pub formed : r .formed ≡ every isFormed (entriesOf s)
   pub known : r .known ≡ every isKnown (entriesOf s)
   pub count : r .count ≡ length (entriesOf s)
-  pub sources : listOf (r .sources) ≡ take mostEntries (map codeOf (entriesOf s))
+  pub list : listOf (r .sources) ≡ take mostEntries (map codeOf (entriesOf s))
+  pub counted : Counted (r .sources)

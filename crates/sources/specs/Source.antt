@@ -1,4 +1,5 @@
 -- Sources and their texts. Assumes nothing.
+use mathlib.Core.Path.{_≡_}
 use mathlib.Core.Bool.{Bool, false, _&&_, _||_, not}
 use mathlib.Core.List.{List, [], _∷_, _++_}
 use Prim.Native.Nat.{ℕ}
@@ -43,6 +44,15 @@ sourceOf codes t = first (not (isSource t) ⇒ Malformed ∷ []) (findSource cod
 -- the codes of a list; a count past the array's end counts as the end
 unfoldable pub listOf : Sources → List ℕ
 listOf q = take (q .count) (q .codes)
+
+-- the count is how many sources the list has
+unfoldable pub Counted : Sources → Type 0
+Counted q = q .count ≡ length (listOf q)
+
+-- r is the list q and one source more; a full list stays as it is
+pub record Pushed (q : Sources) (code : ℕ) (r : Sources) : Type 0 where
+  pub list : listOf r ≡ take mostEntries (listOf q ++ (code ∷ []))
+  pub count : Counted r
 
 -- the text of a list: each entry is `D` and a source
 unfoldable pub listText : List ℕ → List ℕ

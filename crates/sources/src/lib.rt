@@ -2,9 +2,9 @@
 ghost use mathlib.Core.Path.{_≡_};
 ghost use mathlib.Core.List.{[], _∷_, _++_};
 ghost use Prim.Native.Nat.{_+_, _^_, _<_};
-ghost use lib.ListN.{length, take};
+ghost use lib.ListN.{length};
 ghost use Rattle.buffer.specs.Text.{textOf, cut};
-ghost use Rattle.sources.specs.Source.{knownSources, mostEntries, sourceOf, sourceText, listOf, listText};
+ghost use Rattle.sources.specs.Source.{knownSources, sourceOf, sourceText, listOf, Counted, Pushed, listText};
 ghost use Rattle.sources.specs.Entries.{opens, Lists};
 ghost use Rattle.sources.specs.Inner.{Taken, Ran};
 
@@ -32,10 +32,11 @@ impl Sources {
 
     // The list and one source more. A full list stays as it is.
     pub fn push(mut self, code: u8) -> Sources
-        ensures { λ r. ⌜ listOf r ≡ take mostEntries (listOf self ++ (code ∷ [])) ⌝ }
+        ensures { λ r. ⌜ Pushed self code r ⌝ }
     {
         let at = self.count;
         if Sources::MOST <= at {
+            self.count = Sources::MOST;
             return self;
         }
         self.codes[at] = code;
@@ -183,7 +184,7 @@ pub struct Listed {
 }
 
 fn refused(number: u8) -> Listed
-    ensures { λ r. ⌜ (r .number ≡ number) × (listOf (r .sources) ≡ []) ⌝ }
+    ensures { λ r. ⌜ (r .number ≡ number) × (listOf (r .sources) ≡ []) × Counted (r .sources) ⌝ }
 {
     Listed {
         number,

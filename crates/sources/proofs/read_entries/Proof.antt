@@ -38,7 +38,7 @@ returns-5 c =
     let o = sym (c .before .before .before .before .before .before .is-open .ensures) ∙ not-false _ (c .before .before .before .before .before .if1 .left) in
     let run = c .before .before .before .before .run-of .ensures in
     granted (rw (o, sym (run .formed) ∙ not-false _ (c .before .before .before .if2 .left), sym (run .known) ∙ not-false _ (c .before .before .if3 .left), ← (run .count), le-ltb 7 _ (c .before .if4 .left)))
-    (rw (← (run .count)) (c .before .if4 .left)) (run .sources)
+    (rw (← (run .count)) (c .before .if4 .left)) (run .list) (run .counted)
 
 pub read-entries-spec : {M : Type 1} → statement M
 read-entries-spec =

@@ -5,7 +5,7 @@ use Prim.Native.Nat.{ℕ, _+_, _-_, _<_, _≤_}
 use native.Mathlib.Omega.{arith}
 use borrow.Author.Needs.{needs}
 use lib.ListN.{length, take, drop, drop-of-length-le, length-take, length-drop}
-use Rattle.sources.specs.Source.{listOf, sourceOf, knownSources}
+use Rattle.sources.specs.Source.{listOf, Counted, sourceOf, knownSources}
 use Rattle.buffer.specs.Byte.{untilOf}
 use Rattle.buffer.proofs.Laws.{until-le}
 use Rattle.sources.proofs.Reading.{Sofar, entries-step, next, ended}
@@ -19,8 +19,8 @@ abbrev μ-loop : tie.MeasureT-loop
 μ-loop s run₀ i₀ run i = length s - i
 
 loop-holds : tie.Need-loop-holds Inv-loop μ-loop
-unfolding listOf
-loop-holds c = (omega arith, omega arith, record { formed = refl; known = refl; count = omega arith; sources = refl; few = refl })
+unfolding listOf Counted
+loop-holds c = (omega arith, omega arith, record { formed = refl; known = refl; count = omega arith; sources = refl; few = refl; counted = refl })
 
 -- the front of what follows a `D` ends within the text
 reach : (s : List ℕ) (i : ℕ) → i < length s → untilOf 68 (drop (i + 1) s) + (i + 1) ≤ length s

@@ -4,7 +4,7 @@ use mathlib.Core.List.{List, []}
 use Prim.Native.Nat.{ℕ}
 use lib.ListN.{drop}
 use Rattle.decimal.specs.Form.{numberOf}
-use Rattle.sources.specs.Source.{listOf}
+use Rattle.sources.specs.Source.{listOf, Counted}
 use Rattle.sources.specs.Entries.{entriesList}
 use Rattle.settings.specs.Limits.{standard}
 use Rattle.settings.specs.declared.Key.{Key}
@@ -50,3 +50,4 @@ listIn SM s = ifSet (streamData s) (entriesList (drop 1 s))
 pub record Judges (key : Key) (s : List ℕ) (r : Judged) : Type 0 where
   pub verdict : r .verdict ≡ verdictOf key s
   pub list : listOf (r .sources) ≡ listIn key s
+  pub count : Counted (r .sources)

@@ -4,7 +4,7 @@ ghost use mathlib.Core.Path.{_≡_};
 ghost use mathlib.Core.List.{[]};
 ghost use Prim.Native.Nat.{min};
 ghost use Rattle.decimal.specs.Form.{numberOf};
-ghost use Rattle.sources.specs.Source.{listOf};
+ghost use Rattle.sources.specs.Source.{listOf, Counted};
 ghost use Rattle.settings.specs.Limits.{standard};
 ghost use Rattle.settings.specs.declared.Key.{Key};
 ghost use Rattle.settings.specs.declared.Setting.{Setting};
@@ -263,7 +263,7 @@ pub fn judge_transition(s: &[u8]) -> Verdict
 }
 
 fn refused(number: u8) -> Judged
-    ensures { λ r. ⌜ (r .verdict ≡ Verdict.Refused number) × (listOf (r .sources) ≡ []) ⌝ }
+    ensures { λ r. ⌜ (r .verdict ≡ Verdict.Refused number) × (listOf (r .sources) ≡ []) × Counted (r .sources) ⌝ }
 {
     Judged {
         verdict: Verdict::Refused(number),
@@ -330,7 +330,7 @@ pub fn judge_stream(s: &[u8]) -> Judged
 }
 
 fn plain(verdict: Verdict) -> Judged
-    ensures { λ r. ⌜ (r .verdict ≡ verdict) × (listOf (r .sources) ≡ []) ⌝ }
+    ensures { λ r. ⌜ (r .verdict ≡ verdict) × (listOf (r .sources) ≡ []) × Counted (r .sources) ⌝ }
 {
     Judged {
         verdict,

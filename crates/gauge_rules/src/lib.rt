@@ -4,7 +4,7 @@ ghost use mathlib.Core.Bool.{_&&_};
 ghost use mathlib.Core.List.{[]};
 ghost use lib.Dec.{eqb};
 ghost use Rattle.buffer.specs.Text.{textOf};
-ghost use Rattle.sources.specs.Source.{listOf};
+ghost use Rattle.sources.specs.Source.{listOf, Counted};
 ghost use Rattle.settings.specs.Settings.{held};
 ghost use Rattle.requests.specs.declared.Command.{Command};
 ghost use Rattle.requests.specs.declared.RequestV2.{RequestV2};
@@ -22,6 +22,7 @@ impl Gauge {
     // A gauge at factory settings and the bench's start, locked.
     pub fn at_start() -> Gauge
         ensures { λ r. ⌜ stateOf r ≡ fresh ⌝ }
+        ensures { λ r. ⌜ Counted (r .settings .sources) ⌝ }
     {
         Gauge {
             settings: settings::Settings::at_factory(),
@@ -195,6 +196,7 @@ pub fn answer_code(request: requests::RequestV2) -> u8
 // The settings with a command restored, where it is a setting.
 fn restored(s: settings::Settings, command: requests::Command) -> settings::Settings
     ensures { λ r. ⌜ held r ≡ enterV2 (held s) (RequestV2.Restore command) [] ⌝ }
+    ensures { λ r. ⌜ (Counted (s .sources) → Counted (r .sources)) ⌝ }
 {
     match command {
         requests::Command::MV => s,
@@ -212,6 +214,7 @@ pub fn enter_v2(
     list: sources::Sources,
 ) -> settings::Settings
     ensures { λ r. ⌜ held r ≡ enterV2 (held s) request (listOf list) ⌝ }
+    ensures { λ r. ⌜ (Counted (s .sources) → Counted list → Counted (r .sources)) ⌝ }
 {
     match request {
         requests::RequestV2::Read(_) => s,

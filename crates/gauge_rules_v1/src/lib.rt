@@ -4,6 +4,7 @@ ghost use mathlib.Core.List.{[], _∷_};
 ghost use lib.Dec.{eqb};
 ghost use Rattle.buffer.specs.First.{_⇒_, first};
 ghost use Rattle.buffer.specs.Text.{textOf};
+ghost use Rattle.sources.specs.Source.{Counted};
 ghost use Rattle.settings.specs.Settings.{held, putOf};
 ghost use Rattle.settings.specs.declared.Setting.{Setting};
 ghost use Rattle.gauge_rules.specs.State.{stateOf};
@@ -95,6 +96,7 @@ pub fn unlocks_gauge(request: requests::RequestV1) -> bool
 // The settings after a `c` with six digits.
 fn enter_factor(s: settings::Settings, unlocked: bool, n: u32) -> settings::Settings
     ensures { λ r. ⌜ held r ≡ first (eqb (factorNumber unlocked n) 0 ⇒ putOf (held s) (Setting.Factor n) [] ∷ []) (held s) ⌝ }
+    ensures { λ r. ⌜ (Counted (s .sources) → Counted (r .sources)) ⌝ }
 {
     if factor_number(unlocked, n) != 0 {
         return s;
@@ -105,6 +107,7 @@ fn enter_factor(s: settings::Settings, unlocked: bool, n: u32) -> settings::Sett
 // The settings after a V1 request: an accepted one enters, a refused one changes nothing.
 pub fn enter_v1(g: gauge_rules::Gauge, request: requests::RequestV1) -> settings::Settings
     ensures { λ r. ⌜ held r ≡ settingsV1 (stateOf g) request ⌝ }
+    ensures { λ r. ⌜ (Counted (g .settings .sources) → Counted (r .sources)) ⌝ }
 {
     let s = g.settings;
     match request {

@@ -14,7 +14,7 @@ use Rattle.frames.specs.declared.HeadV2.{HeadV2}
 use Rattle.frames.specs.declared.Frame.{Frame}
 use Rattle.frames.specs.declared.Frame.the-variants.{Silent, V1, Length, V2}
 use Rattle.frame_writer.specs.declared.ErrorText.{ErrorText}
-use Rattle.sources.specs.Source.{listOf}
+use Rattle.sources.specs.Source.{listOf, Counted}
 use Rattle.settings.specs.declared.Key.the-variants.{DA, DU, C1, CM, CC, FC, ST, SM}
 use Rattle.forms.specs.Judged.{verdictOf, ifSet, listIn}
 use Rattle.forms.specs.Forms.{streamData}
@@ -114,16 +114,16 @@ beside-error s list = error-row _ _ _ list (error-row _ _ _ list (error-row _ _ 
 
 -- ---- what a reader answers
 
-pub refuses : (address : ℕ) (r : RequestV2) (s : List ℕ) (a : AnswerV2) (k : ℕ) → (a .read ≡ Refused k) × (listOf (a .sources) ≡ []) → Refused k ≡ readV2 address r s → ReadsV2 address r s a
+pub refuses : (address : ℕ) (r : RequestV2) (s : List ℕ) (a : AnswerV2) (k : ℕ) → (a .read ≡ Refused k) × (listOf (a .sources) ≡ []) × Counted (a .sources) → Refused k ≡ readV2 address r s → ReadsV2 address r s a
 unfolding readList beside
-refuses address r s a k e h = record { read = e .0 ∙ h; list = rw (← h) (e .1) }
+refuses address r s a k e h = record { read = e .0 ∙ h; list = rw (← h) (e .1); count = e .2 }
 
 pub from-body : (address : ℕ) (r : RequestV2) (h : HeadV2) (s : List ℕ) (a : AnswerV2) → BodyReads r h (dataFrom 8 s) a → bodyReply r h (dataFrom 8 s) ≡ readV2 address r s → ReadsV2 address r s a
 unfolding readList
-from-body address r h s a b e = record { read = b .read ∙ e; list = rw (← e) (b .list) }
+from-body address r h s a b e = record { read = b .read ∙ e; list = rw (← e) (b .list); count = b .count }
 
-pub alone : (r : RequestV2) (h : HeadV2) (s : List ℕ) (a : AnswerV2) (x : ReadV2) → a .read ≡ x → listOf (a .sources) ≡ [] → x ≡ bodyReply r h s → beside x (dataList r s) ≡ [] → BodyReads r h s a
-alone r h s a x e l b n = record { read = e ∙ b; list = rw (← b) (l ∙ sym n) }
+pub alone : (r : RequestV2) (h : HeadV2) (s : List ℕ) (a : AnswerV2) (x : ReadV2) → a .read ≡ x → listOf (a .sources) ≡ [] → Counted (a .sources) → x ≡ bodyReply r h s → beside x (dataList r s) ≡ [] → BodyReads r h s a
+alone r h s a x e l c b n = record { read = e ∙ b; list = rw (← b) (l ∙ sym n); count = c }
 
 pub from-data : (r : RequestV2) (h : HeadV2) (s : List ℕ) (a : AnswerV2) → DataReads r s a → dataReply r s ≡ bodyReply r h s → BodyReads r h s a
-from-data r h s a d e = record { read = d .read ∙ e; list = rw (← e) (d .list ∙ sym (beside-data r s)) }
+from-data r h s a d e = record { read = d .read ∙ e; list = rw (← e) (d .list ∙ sym (beside-data r s)); count = d .count }

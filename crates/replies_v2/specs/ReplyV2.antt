@@ -13,7 +13,7 @@ use Rattle.frames.specs.declared.HeadV2.{HeadV2}
 use Rattle.frame_writer.specs.Error.{errorBytes}
 use Rattle.frame_writer.specs.declared.ErrorText.{ErrorText}
 use Rattle.frame_writer.specs.declared.ErrorText.the-variants as error
-use Rattle.sources.specs.Source.{listOf}
+use Rattle.sources.specs.Source.{listOf, Counted}
 use Rattle.requests.specs.Command.{commandText}
 use Rattle.requests.specs.declared.RequestV2.{RequestV2}
 use Rattle.requests.specs.declared.RequestV2.the-variants as request
@@ -107,16 +107,19 @@ readList address r s = beside (readV2 address r s) (dataList r (dataFrom 8 s))
 pub record ReadsV2 (address : ℕ) (r : RequestV2) (s : List ℕ) (a : AnswerV2) : Type 0 where
   pub read : a .read ≡ readV2 address r s
   pub list : listOf (a .sources) ≡ readList address r s
+  pub count : Counted (a .sources)
 
 -- ---- the same for the data alone, and for a head and its data
 
 pub record DataReads (r : RequestV2) (s : List ℕ) (a : AnswerV2) : Type 0 where
   pub read : a .read ≡ dataReply r s
   pub list : listOf (a .sources) ≡ dataList r s
+  pub count : Counted (a .sources)
 
 pub record BodyReads (r : RequestV2) (h : HeadV2) (s : List ℕ) (a : AnswerV2) : Type 0 where
   pub read : a .read ≡ bodyReply r h s
   pub list : listOf (a .sources) ≡ beside (bodyReply r h s) (dataList r s)
+  pub count : Counted (a .sources)
 
 -- ---- answers
 

@@ -13,7 +13,7 @@ use Rattle.decimal.specs.declared.Parsed.{Parsed}
 use Rattle.decimal.specs.declared.Parsed.the-variants.{Value, Syntax, Range}
 use Rattle.decimal.specs.declared.Hundredths.{Hundredths}
 use Rattle.decimal.specs.declared.Hundredths.the-variants.{Whole, Other}
-use Rattle.sources.specs.Source.{listOf}
+use Rattle.sources.specs.Source.{listOf, Counted}
 use Rattle.settings.specs.declared.Key.{Key}
 use Rattle.settings.specs.declared.Key.the-variants.{DA, DU, C1, CM, CC, FC, ST, SM}
 use Rattle.settings.specs.declared.Setting.the-variants.{Switch}
@@ -118,3 +118,4 @@ valueList (Of key) s = listIn key s
 pub record Values (c : Command) (s : List ℕ) (r : AnswerV2) : Type 0 where
   pub read : r .read ≡ valueReply c s
   pub list : listOf (r .sources) ≡ valueList c s
+  pub count : Counted (r .sources)

@@ -2,7 +2,7 @@
 ghost use mathlib.Core.Path.{_≡_};
 ghost use mathlib.Core.List.{[]};
 ghost use Rattle.decimal.specs.Form.{parsedNumber};
-ghost use Rattle.sources.specs.Source.{listOf};
+ghost use Rattle.sources.specs.Source.{listOf, Counted};
 ghost use Rattle.requests.specs.declared.Command.{Command};
 ghost use Rattle.replies_v2_values.specs.Value.{measuredReply, pressureReply, degreesReply, temperatureReply, filamentReply, statusReply, heldReply, bothEnds, transitionReply, Values};
 ghost use Rattle.replies_v2_values.specs.Kind.{pressureRead, degreesRead, filamentRead, statusRead, settingRead};
@@ -42,7 +42,7 @@ pub struct AnswerV2 {
 
 // An answer with no list beside it.
 pub fn plain(read: ReadV2) -> AnswerV2
-    ensures { λ r. ⌜ (r .read ≡ read) × (listOf (r .sources) ≡ []) ⌝ }
+    ensures { λ r. ⌜ (r .read ≡ read) × (listOf (r .sources) ≡ []) × Counted (r .sources) ⌝ }
 {
     AnswerV2 {
         read,

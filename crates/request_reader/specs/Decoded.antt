@@ -9,7 +9,7 @@ use Rattle.buffer.specs.Byte.{within}
 use Rattle.frames.specs.Frame.{dataFrom, frameOf}
 use Rattle.frames.specs.declared.Frame.{Frame}
 use Rattle.frames.specs.declared.Frame.the-variants as frame
-use Rattle.sources.specs.Source.{listOf}
+use Rattle.sources.specs.Source.{listOf, Counted}
 use Rattle.settings.specs.Limits.{standard}
 use Rattle.requests.specs.AskV2.{askV2, askList}
 use Rattle.requests.specs.AskV1.{askV1}
@@ -69,3 +69,4 @@ requestNumber (Refused k) = k
 pub record Decodes (s : List ℕ) (r : Decoded) : Type 0 where
   pub request : r .request ≡ requestOf s
   pub list : listOf (r .sources) ≡ requestList s
+  pub count : Counted (r .sources)

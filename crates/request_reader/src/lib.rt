@@ -1,7 +1,7 @@
 // Any bytes read as a typed request to a text gauge, whatever the gauge's state (document 01, "The master's side").
 ghost use mathlib.Core.Path.{_≡_};
 ghost use mathlib.Core.List.{[]};
-ghost use Rattle.sources.specs.Source.{listOf};
+ghost use Rattle.sources.specs.Source.{listOf, Counted};
 ghost use Rattle.request_reader.specs.Decoded.{fromV2, judgedV1, fromV1, Decodes};
 use requests::AskV1;
 use requests::AskV2;
@@ -57,7 +57,7 @@ fn from_v1(address: u16, ask: AskV1) -> Request
 }
 
 fn plain(request: Request) -> Decoded
-    ensures { λ r. ⌜ (r .request ≡ request) × (listOf (r .sources) ≡ []) ⌝ }
+    ensures { λ r. ⌜ (r .request ≡ request) × (listOf (r .sources) ≡ []) × Counted (r .sources) ⌝ }
 {
     Decoded {
         request,

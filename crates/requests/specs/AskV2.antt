@@ -7,7 +7,7 @@ use lib.Dec.{eqb}
 use lib.ListN.{length}
 use Rattle.buffer.specs.First.{_⇒_, first}
 use Rattle.frames.specs.declared.HeadV2.{HeadV2}
-use Rattle.sources.specs.Source.{listOf}
+use Rattle.sources.specs.Source.{listOf, Counted}
 use Rattle.forms.specs.Judged.{verdictOf, listIn}
 use Rattle.forms.specs.declared.Verdict.{Verdict}
 use Rattle.forms.specs.declared.Verdict.the-variants as verdict
@@ -70,7 +70,9 @@ askList h s = first (not (isAccess (h .access)) ⇒ [] ∷ []) (namedList (h .ac
 pub record Writes (c : Command) (s : List ℕ) (r : AskedV2) : Type 0 where
   pub ask : r .ask ≡ writeOf c s
   pub list : listOf (r .sources) ≡ writeList c s
+  pub count : Counted (r .sources)
 
 pub record AsksV2 (h : HeadV2) (s : List ℕ) (r : AskedV2) : Type 0 where
   pub ask : r .ask ≡ askV2 h s
   pub list : listOf (r .sources) ≡ askList h s
+  pub count : Counted (r .sources)

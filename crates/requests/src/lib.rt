@@ -2,7 +2,7 @@
 // gauge's state.
 ghost use mathlib.Core.Path.{_≡_};
 ghost use mathlib.Core.List.{[]};
-ghost use Rattle.sources.specs.Source.{listOf};
+ghost use Rattle.sources.specs.Source.{listOf, Counted};
 ghost use Rattle.requests.specs.Command.{commandOf, commandText, isAccess, canWrite, canRestore, lacksAccess};
 ghost use Rattle.requests.specs.AskV2.{setOf, AsksV2, Writes};
 ghost use Rattle.requests.specs.AskV1.{sixDigits, bareOf, oneOf, unitAt, askV1};
@@ -167,7 +167,7 @@ pub fn lacks_access(access: u8, command: Command) -> bool
 }
 
 fn plain(ask: AskV2) -> AskedV2
-    ensures { λ r. ⌜ (r .ask ≡ ask) × (listOf (r .sources) ≡ []) ⌝ }
+    ensures { λ r. ⌜ (r .ask ≡ ask) × (listOf (r .sources) ≡ []) × Counted (r .sources) ⌝ }
 {
     AskedV2 {
         ask,

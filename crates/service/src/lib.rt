@@ -3,6 +3,7 @@
 ghost use mathlib.Core.Path.{_≡_};
 ghost use Prim.Native.Nat.{_≤_, min};
 ghost use lib.ListN.{length};
+ghost use Rattle.sources.specs.Source.{Counted};
 ghost use Rattle.gauge_rules.specs.State.{stateOf};
 ghost use Rattle.service.specs.Served.{mostKept, Serves, Keeps};
 
@@ -21,6 +22,7 @@ pub const KEPT_MAX: usize = 110;
 pub fn serve(g: gauge_rules::Gauge, input: &[u8], out: &mut [u8]) -> Served
     ensures { λ r. ⌜ Serves (stateOf g) (now (input .entry)) (now (out .entry)) (now (out .exit)) r ⌝ }
     ensures { λ r. ⌜ (r .taken ≤ length (now (input .entry))) × (r .len ≤ length (now (out .entry))) ⌝ }
+    ensures { λ r. ⌜ (Counted (g .settings .sources) → Counted (r .gauge .settings .sources)) ⌝ }
 {
     let mut h = g;
     let mut at: usize = 0;

@@ -4,7 +4,7 @@ ghost use mathlib.Core.Path.{_≡_};
 ghost use mathlib.Core.List.{[], _∷_};
 ghost use Rattle.buffer.specs.Text.{textOf};
 ghost use Rattle.buffer.specs.Byte.{digit, digits3};
-ghost use Rattle.sources.specs.Source.{listOf};
+ghost use Rattle.sources.specs.Source.{listOf, Counted};
 ghost use Rattle.settings.specs.Settings.{held, factory, keyOf, factoryOf, bothOf, putOf, restoreOf};
 ghost use Rattle.settings.specs.Sent.{unitText, transitionText, streamText, readText};
 
@@ -124,6 +124,7 @@ impl Settings {
     // The settings as they leave the works.
     pub fn at_factory() -> Settings
         ensures { λ r. ⌜ held r ≡ factory ⌝ }
+        ensures { λ r. ⌜ Counted (r .sources) ⌝ }
     {
         Settings::FACTORY
     }
@@ -150,6 +151,7 @@ impl Settings {
     // The settings made anew: a field that is an enum is not stored to.
     fn with_both(self, unit: PressureUnit, transition: Transition) -> Settings
         ensures { λ r. ⌜ held r ≡ bothOf (held self) unit transition ⌝ }
+        ensures { λ r. ⌜ r .sources ≡ self .sources ⌝ }
     {
         let sources = self.sources;
         Settings {
@@ -168,6 +170,7 @@ impl Settings {
     // The settings with one of them set, and no other changed. The list counts for Stream only.
     pub fn with(self, setting: Setting, list: sources::Sources) -> Settings
         ensures { λ r. ⌜ held r ≡ putOf (held self) setting (listOf list) ⌝ }
+        ensures { λ r. ⌜ (Counted (self .sources) → Counted list → Counted (r .sources)) ⌝ }
     {
         let mut s = self;
         let unit = self.unit;
@@ -206,6 +209,7 @@ impl Settings {
     // The settings with one of them at its factory value.
     pub fn restored(self, key: Key) -> Settings
         ensures { λ r. ⌜ held r ≡ restoreOf (held self) key ⌝ }
+        ensures { λ r. ⌜ (Counted (self .sources) → Counted (r .sources)) ⌝ }
     {
         self.with(Settings::factory_value(key), sources::Sources::NONE)
     }

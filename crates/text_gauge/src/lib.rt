@@ -7,7 +7,7 @@ ghost use lib.ListN.{length};
 ghost use Rattle.buffer.specs.Byte.{isDigit};
 ghost use Rattle.buffer.specs.Text.{textOf};
 ghost use Rattle.buffer.specs.Answer.{Sent};
-ghost use Rattle.sources.specs.Source.{listOf};
+ghost use Rattle.sources.specs.Source.{listOf, Counted};
 ghost use Rattle.settings.specs.Settings.{held};
 ghost use Rattle.frame_writer.specs.Written.{frameV1, frameV2};
 ghost use Rattle.frames_facts.specs.ReadBack.{SendableV1, SendableV2};
@@ -114,6 +114,7 @@ fn answer_v2(
 ) -> Answered
     requires { ⌜ Fits (SendableV2 head []) (now out) ⌝ }
     ensures { λ r. ⌜ AnswersV2 (stateOf g) head (asked .ask) (listOf (asked .sources)) (now (out .entry)) (now (out .exit)) r ⌝ }
+    ensures { λ r. ⌜ (Counted (g .settings .sources) → Counted (asked .sources) → Counted (r .gauge .settings .sources)) ⌝ }
 {
     let ask = asked.ask;
     let list = asked.sources;
@@ -172,6 +173,7 @@ fn answer_v1(
     requires { ⌜ Fits (SendableV1 head []) (now out) ⌝ }
     requires { ⌜ length (now request) ≤ 12 ⌝ }
     ensures { λ r. ⌜ AnswersV1 (stateOf g) (now (request .entry)) head ask (now (out .entry)) (now (out .exit)) r ⌝ }
+    ensures { λ r. ⌜ (Counted (g .settings .sources) → Counted (r .gauge .settings .sources)) ⌝ }
 {
     let settings = g.settings;
     let readings = g.readings;
@@ -214,6 +216,7 @@ fn silent(gauge: gauge_rules::Gauge, number: u16) -> Answered
 // Answers any bytes, in any memory lent.
 pub fn answer(g: gauge_rules::Gauge, request: &[u8], out: &mut [u8]) -> Answered
     ensures { λ r. ⌜ Answers (stateOf g) (now (request .entry)) (now (out .entry)) (now (out .exit)) r ⌝ }
+    ensures { λ r. ⌜ (Counted (g .settings .sources) → Counted (r .gauge .settings .sources)) ⌝ }
 {
     if out.len() < ROOM {
         return silent(g, 1);
@@ -250,6 +253,7 @@ pub fn answer(g: gauge_rules::Gauge, request: &[u8], out: &mut [u8]) -> Answered
 // Sets a reading or FS, or refuses with 15 and changes nothing.
 pub fn set_bench(g: gauge_rules::Gauge, b: readings::Bench) -> BenchAnswer
     ensures { λ r. ⌜ Benches (stateOf g) b r ⌝ }
+    ensures { λ r. ⌜ (Counted (g .settings .sources) → Counted (r .gauge .settings .sources)) ⌝ }
 {
     let settings = g.settings;
     let old = g.readings;

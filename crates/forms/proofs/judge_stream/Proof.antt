@@ -14,7 +14,7 @@ returns c =
     let t = c .before .before .before .before .before .before .rest .ensures in
     let v = rw (l .number, t) at (c .before .before .before .stream-verdict .ensures) in
     let e = c .before .x .given .1 in
-    record { verdict = sym e ∙ v; list = rw (← v, e) (rw t at (l .list)) }
+    record { verdict = sym e ∙ v; list = rw (← v, e) (rw t at (l .list)); count = l .count }
 
 returns-2 : tie.Need-returns-2
 unfolding verdictOf listIn streamData ifSet
@@ -23,7 +23,7 @@ returns-2 c =
     let t = c .before .before .before .before .before .before .before .rest .ensures in
     let v = rw (l .number, t) at (c .before .before .before .before .stream-verdict .ensures) in
     let e = c .before .before .k .given .1 in
-    record { verdict = c .refused .ensures .0 ∙ sym e ∙ v; list = rw (← v, e) (c .refused .ensures .1) }
+    record { verdict = c .refused .ensures .0 ∙ sym e ∙ v; list = rw (← v, e) (c .refused .ensures .1); count = c .refused .ensures .2 }
 
 pub judge-stream-spec : {M : Type 1} → statement M
 judge-stream-spec =

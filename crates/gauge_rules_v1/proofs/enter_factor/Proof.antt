@@ -1,18 +1,18 @@
 -- `gauge_rules_v1::enter_factor` meets its contract. An accepted factor fits its field. Assumes nothing.
-use mathlib.Core.Path.{sym, _∙_}
+use mathlib.Core.Path.{refl, sym, _∙_}
 use borrow.Author.Needs.{needs}
 use borrow.Author.Tests.{eq-eqb, ne-eqb}
 use native.Mathlib.Omega.{arith}
 use Rattle.buffer.specs.First.{pick}
 use Rattle.buffer.proofs.Laws.{within-true}
-use Rattle.sources.specs.Source.{listOf}
+use Rattle.sources.specs.Source.{listOf, Counted}
 use Rattle.gauge_rules_v1.proofs.Laws.{factor-in}
 use Rattle.gauge_rules_v1.proofs.enter_factor.Statement.{statement}
 use Rattle.gauge_rules_v1.proofs.enter_factor.Tie as tie
 
 returns : tie.Need-returns
 unfolding pick
-returns c = rw (ne-eqb _ 0 (λ z. c .if1 .taken (c .before .factor-number .ensures ∙ z)))
+returns c = (rw (ne-eqb _ 0 (λ z. c .if1 .taken (c .before .factor-number .ensures ∙ z))), λ n. n)
 
 cast-t6 : tie.Need-cast-t6
 cast-t6 c =
@@ -21,8 +21,8 @@ cast-t6 c =
     record { fits = omega (arith, h .1) }
 
 returns-2 : tie.Need-returns-2
-unfolding pick listOf
-returns-2 c = rw (eq-eqb _ 0 (sym (c .before .before .factor-number .ensures) ∙ c .before .if1 .left)) (c .with .ensures)
+unfolding pick listOf Counted
+returns-2 c = (rw (eq-eqb _ 0 (sym (c .before .before .factor-number .ensures) ∙ c .before .if1 .left)) (c .with .ensures .0), λ n. c .with .ensures .1 n refl)
 
 pub enter-factor-spec : {M : Type 1} → statement M
 enter-factor-spec = tie.close (tie.spec (λ c κs. search needs) returns cast-t6 (λ c κs. search needs) returns-2)

@@ -10,12 +10,12 @@ use Rattle.player.proofs.ask_text.Tie as tie
 cast-made : tie.Need-cast-made
 cast-made c =
     let answer = c .before .before .before .before .before .answer in
-    omega (arith, reply-fits (answer .ensures .sent) (answer .kept .1 .1 .0), c .before .before .before .before .before .before .before .before .before .before .before .pre)
+    omega (arith, reply-fits (answer .ensures .0 .sent) (answer .kept .1 .1 .0), c .before .before .before .before .before .before .before .before .before .before .before .pre)
 
 returns : tie.Need-returns
 returns c =
     asked-made Text (c .made .ensures)
-    (λ h t. record { of-text-gauge = sequence.ask (t .of-text-gauge) (c .before .before .before .before .before .before .answer .ensures); of-opg-gauge = t .of-opg-gauge })
+    (λ h t. record { of-text-gauge = sequence.ask (t .of-text-gauge) (c .before .before .before .before .before .before .answer .ensures .0); of-opg-gauge = t .of-opg-gauge })
 
 pub ask-text-spec : {M : Type 1} → statement M
 ask-text-spec = tie.close (tie.spec (λ c κs. search needs) cast-made (λ c κs. search needs) (λ c. search needs) returns)

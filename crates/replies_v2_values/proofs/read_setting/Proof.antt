@@ -5,7 +5,7 @@ use Prim.Native.Nat.{ℕ}
 use borrow.Author.Needs.{needs}
 use types.Run.{OneOf, miss}
 use denote.Enum.Declared.{tagOf}
-use Rattle.sources.specs.Source.{listOf}
+use Rattle.sources.specs.Source.{listOf, Counted}
 use Rattle.settings.specs.declared.Key.{Key}
 use Rattle.settings.specs.declared.Key.the-variants.{DA, DU, C1, CM, CC, FC, ST, SM}
 use Rattle.settings.proofs.Key.{the-type}
@@ -18,16 +18,16 @@ use Rattle.replies_v2_values.proofs.read_setting.Tie as tie
 
 -- every setting but ST
 other : (key : Key) (s : List ℕ) (r : AnswerV2) → OneOf (0 ∷ 1 ∷ 2 ∷ 3 ∷ 4 ∷ 5 ∷ 7 ∷ []) (tagOf the-type key) → r .read ≡ heldReply (verdictOf key s)
-    → listOf (r .sources) ≡ listIn key s → Values (Of key) s r
+    → listOf (r .sources) ≡ listIn key s → Counted (r .sources) → Values (Of key) s r
 unfolding settingReply valueReply valueList
-other DA s r h a l = record { read = a; list = l }
-other DU s r h a l = record { read = a; list = l }
-other C1 s r h a l = record { read = a; list = l }
-other CM s r h a l = record { read = a; list = l }
-other CC s r h a l = record { read = a; list = l }
-other FC s r h a l = record { read = a; list = l }
-other ST s r h a l = absurd (miss (0 ∷ 1 ∷ 2 ∷ 3 ∷ 4 ∷ 5 ∷ 7 ∷ []) 6 tt h)
-other SM s r h a l = record { read = a; list = l }
+other DA s r h a l n = record { read = a; list = l; count = n }
+other DU s r h a l n = record { read = a; list = l; count = n }
+other C1 s r h a l n = record { read = a; list = l; count = n }
+other CM s r h a l n = record { read = a; list = l; count = n }
+other CC s r h a l n = record { read = a; list = l; count = n }
+other FC s r h a l n = record { read = a; list = l; count = n }
+other ST s r h a l n = absurd (miss (0 ∷ 1 ∷ 2 ∷ 3 ∷ 4 ∷ 5 ∷ 7 ∷ []) 6 tt h)
+other SM s r h a l n = record { read = a; list = l; count = n }
 
 pub read-setting-spec : {M : Type 1} → statement M
 unfolding settingReply valueReply valueList listIn
@@ -37,8 +37,8 @@ read-setting-spec =
     (λ c. search needs)
     (λ c κs. search needs)
     (λ c κs. search needs)
-    (λ c. other (c .before .before .before .before .before .args .key) (c .before .before .before .before .before .args .s .now) _ (c .before .before .before .match .keys2) (c .held-in .ensures ∙ ap heldReply (c .before .before .judge .ensures .verdict)) (c .before .before .judge .ensures .list))
+    (λ c. other (c .before .before .before .before .before .args .key) (c .before .before .before .before .before .args .s .now) _ (c .before .before .before .match .keys2) (c .held-in .ensures ∙ ap heldReply (c .before .before .judge .ensures .verdict)) (c .before .before .judge .ensures .list) (c .before .before .judge .ensures .count))
     (λ c κs. search needs)
     (λ c κs. search needs)
     (λ c κs. search needs)
-    (λ c. rw (c .before .before .before .enum-told .given .1) (record { read = c .plain .ensures .0 ∙ c .before .transition-in .ensures ∙ ap transitionReply (c .before .before .read-ends .ensures); list = c .plain .ensures .1 })))
+    (λ c. rw (c .before .before .before .enum-told .given .1) (record { read = c .plain .ensures .0 ∙ c .before .transition-in .ensures ∙ ap transitionReply (c .before .before .read-ends .ensures); list = c .plain .ensures .1; count = c .plain .ensures .2 })))

@@ -19,4 +19,4 @@ data-v2-spec =
     (λ c κs. search needs)
     (λ c. rw (c .enum-told .given .1))
     (λ c. rw (c .enum-told2 .given .1))
-    (λ c. rw (c .before .before .before .before .before .request .given .1, ← (c .before .key-of .ensures), ← (c .before .before .before .at-factory .ensures), ← (c .before .before .with .ensures)) (c .text .ensures)))
+    (λ c. rw (c .before .before .before .before .before .request .given .1, ← (c .before .key-of .ensures), ← (c .before .before .before .at-factory .ensures .0), ← (c .before .before .with .ensures .0)) (c .text .ensures)))

@@ -1,9 +1,9 @@
 -- `requests::plain` meets its contract. Assumes nothing.
 use mathlib.Core.Path.{refl}
-use Rattle.sources.specs.Source.{listOf}
+use Rattle.sources.specs.Source.{listOf, Counted}
 use Rattle.requests.proofs.plain.Statement.{statement}
 use Rattle.requests.proofs.plain.Tie as tie
 
 pub plain-spec : {M : Type 1} → statement M
-unfolding listOf
-plain-spec = tie.close (tie.spec (λ c. (refl, refl)))
+unfolding listOf Counted
+plain-spec = tie.close (tie.spec (λ c. (refl, refl, refl)))

@@ -11,29 +11,29 @@ use Rattle.text_gauge.proofs.answer.Statement.{statement}
 use Rattle.text_gauge.proofs.answer.Tie as tie
 
 returns : tie.Need-returns
-returns c = silent-answers _ _ _ 1 _ (no-room _ _ _ (lt-ltb _ 64 (c .before .if1 .taken))) (within-in 1 5 1 (omega arith) (omega arith)) (c .silent .ensures)
+returns c = (silent-answers _ _ _ 1 _ (no-room _ _ _ (lt-ltb _ 64 (c .before .if1 .taken))) (within-in 1 5 1 (omega arith) (omega arith)) (c .silent .ensures), λ n. rw (c .silent .ensures .0) n)
 
 -- another address
 returns-2 : tie.Need-returns-2
 returns-2 c =
     let t = tells-at _ _ (sym (c .before .before .before .before .head .given .1) ∙ c .before .before .before .before .before .before .read-frame .ensures) in
-    silent-answers _ _ _ 5 _ (number-5 _ _ _ (le-ltb _ 64 (c .before .before .before .before .before .before .before .before .before .if1 .left)) (t .0) (other-v1 _ _ _ (t .2) (c .before .if2 .taken))) (within-in 1 5 5 (omega arith) (omega arith)) (c .silent3 .ensures)
+    (silent-answers _ _ _ 5 _ (number-5 _ _ _ (le-ltb _ 64 (c .before .before .before .before .before .before .before .before .before .if1 .left)) (t .0) (other-v1 _ _ _ (t .2) (c .before .if2 .taken))) (within-in 1 5 5 (omega arith) (omega arith)) (c .silent3 .ensures), λ n. rw (c .silent3 .ensures .0) n)
 
 returns-3 : tie.Need-returns-3
 returns-3 c =
     let t = tells-at _ _ (sym (c .before .before .before .before .head2 .given .1) ∙ c .before .before .before .before .before .before .read-frame .ensures) in
-    silent-answers _ _ _ 5 _ (number-5 _ _ _ (le-ltb _ 64 (c .before .before .before .before .before .before .before .before .before .if1 .left)) (t .0) (other-v2 _ _ _ (t .3) (c .before .if3 .taken))) (within-in 1 5 5 (omega arith) (omega arith)) (c .silent4 .ensures)
+    (silent-answers _ _ _ 5 _ (number-5 _ _ _ (le-ltb _ 64 (c .before .before .before .before .before .before .before .before .before .if1 .left)) (t .0) (other-v2 _ _ _ (t .3) (c .before .if3 .taken))) (within-in 1 5 5 (omega arith) (omega arith)) (c .silent4 .ensures), λ n. rw (c .silent4 .ensures .0) n)
 
 returns-4 : tie.Need-returns-4
 returns-4 c =
     let t = tells-at _ _ (sym (c .before .before .before .before .head3 .given .1) ∙ c .before .before .before .before .before .before .read-frame .ensures) in
-    silent-answers _ _ _ 5 _ (number-5 _ _ _ (le-ltb _ 64 (c .before .before .before .before .before .before .before .before .before .if1 .left)) (t .0) (other-v2 _ _ _ (t .3) (c .before .if4 .taken))) (within-in 1 5 5 (omega arith) (omega arith)) (c .silent5 .ensures)
+    (silent-answers _ _ _ 5 _ (number-5 _ _ _ (le-ltb _ 64 (c .before .before .before .before .before .before .before .before .before .if1 .left)) (t .0) (other-v2 _ _ _ (t .3) (c .before .if4 .taken))) (within-in 1 5 5 (omega arith) (omega arith)) (c .silent5 .ensures), λ n. rw (c .silent5 .ensures .0) n)
 
 -- no frame
 returns-5 : tie.Need-returns-5
 returns-5 c =
     let t = numbered-at _ _ (sym (c .before .before .k .given .1) ∙ c .before .before .before .before .read-frame .ensures) in
-    silent-answers _ _ _ _ _ (t .1 _ _ (le-ltb _ 64 (c .before .before .before .before .before .before .before .if1 .left))) (t .0) (c .silent2 .ensures)
+    (silent-answers _ _ _ _ _ (t .1 _ _ (le-ltb _ 64 (c .before .before .before .before .before .before .before .if1 .left))) (t .0) (c .silent2 .ensures), λ n. rw (c .silent2 .ensures .0) n)
 
 -- V1
 answer-v1-requires : tie.Need-answer-v1-requires
@@ -44,7 +44,7 @@ answer-v1-requires c κs =
 returns-6 : tie.Need-returns-6
 returns-6 c =
     let t = tells-at _ _ (sym (c .before .before .before .before .before .before .before .before .before .head .given .1) ∙ c .before .before .before .before .before .before .before .before .before .before .before .read-frame .ensures) in
-    v1-answers _ _ _ _ _ (le-ltb _ 64 (c .before .before .before .before .before .before .before .before .before .before .before .before .before .before .if1 .left)) (t .0) (own-v1 _ _ _ (t .2) (c .before .before .before .before .before .before .if2 .left)) _ _ _ (t .1) (t .2) (c .before .before .before .before .before .data-from .ensures) (c .before .before .before .before .read-v1 .ensures) (c .before .before .answer-v1 .ensures)
+    (v1-answers _ _ _ _ _ (le-ltb _ 64 (c .before .before .before .before .before .before .before .before .before .before .before .before .before .before .if1 .left)) (t .0) (own-v1 _ _ _ (t .2) (c .before .before .before .before .before .before .if2 .left)) _ _ _ (t .1) (t .2) (c .before .before .before .before .before .data-from .ensures) (c .before .before .before .before .read-v1 .ensures) (c .before .before .answer-v1 .ensures .0), c .before .before .answer-v1 .ensures .1)
 
 -- a wrong LEN
 refuse-v2-requires : tie.Need-refuse-v2-requires
@@ -55,7 +55,7 @@ refuse-v2-requires c κs =
 returns-7 : tie.Need-returns-7
 returns-7 c =
     let t = tells-at _ _ (sym (c .before .before .before .before .before .before .before .before .head2 .given .1) ∙ c .before .before .before .before .before .before .before .before .before .before .read-frame .ensures) in
-    length-answers _ _ _ _ _ (le-ltb _ 64 (c .before .before .before .before .before .before .before .before .before .before .before .before .before .if1 .left)) (t .0) (own-v2 _ _ _ (t .3) (c .before .before .before .before .before .if3 .left)) _ _ (t .1) (t .2) (t .3) (c .same .ensures) (c .before .before .before .refuse-v2 .ensures)
+    (length-answers _ _ _ _ _ (le-ltb _ 64 (c .before .before .before .before .before .before .before .before .before .before .before .before .before .if1 .left)) (t .0) (own-v2 _ _ _ (t .3) (c .before .before .before .before .before .if3 .left)) _ _ (t .1) (t .2) (t .3) (c .same .ensures) (c .before .before .before .refuse-v2 .ensures), λ n. rw (c .same .ensures .0) n)
 
 -- V2
 answer-v2-requires : tie.Need-answer-v2-requires
@@ -66,7 +66,7 @@ answer-v2-requires c κs =
 returns-8 : tie.Need-returns-8
 returns-8 c =
     let t = tells-at _ _ (sym (c .before .before .before .before .before .before .before .before .before .head3 .given .1) ∙ c .before .before .before .before .before .before .before .before .before .before .before .read-frame .ensures) in
-    v2-answers _ _ _ _ _ (le-ltb _ 64 (c .before .before .before .before .before .before .before .before .before .before .before .before .before .before .if1 .left)) (t .0) (own-v2 _ _ _ (t .3) (c .before .before .before .before .before .before .if4 .left)) _ _ _ _ (t .1) (t .2) (t .3) (c .before .before .before .before .before .data-from2 .ensures) (c .before .before .before .before .read-v2 .ensures .ask) (c .before .before .before .before .read-v2 .ensures .list) (c .before .before .answer-v2 .ensures)
+    (v2-answers _ _ _ _ _ (le-ltb _ 64 (c .before .before .before .before .before .before .before .before .before .before .before .before .before .before .if1 .left)) (t .0) (own-v2 _ _ _ (t .3) (c .before .before .before .before .before .before .if4 .left)) _ _ _ _ (t .1) (t .2) (t .3) (c .before .before .before .before .before .data-from2 .ensures) (c .before .before .before .before .read-v2 .ensures .ask) (c .before .before .before .before .read-v2 .ensures .list) (c .before .before .answer-v2 .ensures .0), λ n. c .before .before .answer-v2 .ensures .1 n (c .before .before .before .before .read-v2 .ensures .count))
 
 pub answer-spec : {M : Type 1} → statement M
 answer-spec =

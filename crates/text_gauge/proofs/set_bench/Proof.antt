@@ -11,13 +11,13 @@ returns : tie.Need-returns
 unfolding benched
 returns c =
     let e : benchOf (c .before .before .before .before .before .args .b) ≡ Refused = sym (c .before .before .judge-bench .ensures) ∙ c .enum-told .given .1 in
-    record { number = rw e refl; state = rw e }
+    (record { number = rw e refl; state = rw e }, λ n. n)
 
 returns-2 : tie.Need-returns-2
 unfolding benched
 returns-2 c =
     let e = sym (c .before .before .before .before .judge-bench .ensures) ∙ c .before .before .x .given .1 in
-    record { number = rw e; state = rw (e, c .with .ensures) }
+    (record { number = rw e; state = rw (e, c .with .ensures) }, λ n. n)
 
 pub set-bench-spec : {M : Type 1} → statement M
 set-bench-spec =

@@ -1,9 +1,9 @@
 -- `settings::Settings::at_factory` meets its contract. Assumes nothing.
 use mathlib.Core.Path.{refl}
-use Rattle.sources.specs.Source.{listOf}
+use Rattle.sources.specs.Source.{listOf, Counted}
 use Rattle.settings.proofs.Settings.at_factory.Statement.{statement}
 use Rattle.settings.proofs.Settings.at_factory.Tie as tie
 
 pub at-factory-spec : {M : Type 1} → statement M
-unfolding listOf
-at-factory-spec = tie.close (tie.spec (λ c. refl))
+unfolding listOf Counted
+at-factory-spec = tie.close (tie.spec (λ c. (refl, refl)))

@@ -1,0 +1,2 @@
+-- Text requests that are read and written again.
+pub mod Fixed

@@ -1,10 +1,11 @@
 -- Document 01, "Settings and readings, V2": the rules that read the state, the replies' data, and what an accepted request enters. Assumes
 -- nothing.
+use mathlib.Core.Path.{_≡_, refl}
 use mathlib.Core.Bool.{Bool, true, false, _&&_}
-use mathlib.Core.List.{List, [], _∷_}
+use mathlib.Core.List.{List, [], _∷_, map}
 use Prim.Native.Nat.{ℕ}
 use lib.Dec.{eqb}
-use Rattle.buffer.specs.First.{_⇒_, first}
+use Rattle.buffer.specs.First.{_⇒_, first, pick}
 use Rattle.buffer.specs.Byte.{within, digit}
 use Rattle.settings.specs.Settings.{Held, putOf, restoreOf}
 use Rattle.settings.specs.Sent.{readText}
@@ -21,6 +22,16 @@ use Rattle.gauge_rules.specs.State.{State}
 -- "FN is FC when FC is 1 or 2; otherwise 2 if FS is 1 or 3, else 1."
 unfoldable pub filamentOf : ℕ → ℕ → ℕ
 filamentOf filament status = first (within 1 2 filament ⇒ filament ∷ eqb status 1 ⇒ 2 ∷ eqb status 3 ⇒ 2 ∷ []) 1
+
+-- the same for each FC and FS that there is: a line for each FC, 0 to 3, with FN at FS 0 to 3
+pub filament-table : map (λ (filament : ℕ). map (filamentOf filament) (0 ∷ 1 ∷ 2 ∷ 3 ∷ [])) (0 ∷ 1 ∷ 2 ∷ 3 ∷ [])
+    ≡ (1 ∷ 2 ∷ 1 ∷ 2 ∷ [])
+    ∷ (1 ∷ 1 ∷ 1 ∷ 1 ∷ [])
+    ∷ (2 ∷ 2 ∷ 2 ∷ 2 ∷ [])
+    ∷ (1 ∷ 2 ∷ 1 ∷ 2 ∷ [])
+    ∷ []
+unfolding filamentOf within pick
+filament-table = refl
 
 -- a request that writes or restores CC
 unfoldable pub changesCathode : RequestV2 → Bool

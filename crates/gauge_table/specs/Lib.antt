@@ -1,4 +1,4 @@
--- Document 01, "Answer numbers of the text gauge": the table, and that typed requests are decided by it.
+-- Document 01, "Answer numbers of the text gauge": the table, and that typed requests are decided by it. Letters has V1's letters written out.
 pub mod Asked
 pub mod Table
 pub mod Reply
@@ -7,3 +7,4 @@ pub mod DecidedV2
 pub mod DecidedV1
 pub mod Numbers
 pub mod Sendable
+pub mod Letters

@@ -1,4 +1,5 @@
--- Document 01, "Settings and readings, V2" and "V1 on the same settings": what a frame asks.
+-- Document 01, "Settings and readings, V2" and "V1 on the same settings": what a frame asks. Tables has two of the paper's tables written out.
 pub mod Command
 pub mod AskV2
 pub mod AskV1
+pub mod Tables

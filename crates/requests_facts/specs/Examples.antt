@@ -1,4 +1,4 @@
--- Document 01, the column "CMD", and worked cases of what a frame asks, their answers taken from the paper. Assumes nothing.
+-- Document 01, the column "CMD", and worked cases of what a V2 frame asks, their answers taken from the paper. Assumes nothing.
 use mathlib.Core.Path.{_≡_, refl}
 use mathlib.Core.Bool.{true, false}
 use mathlib.Core.List.{List, [], _∷_, map}
@@ -14,7 +14,7 @@ use Rattle.sources.specs.Source.{sourceText, isSource, findSource, sourceOf}
 use Rattle.sources.specs.Entries.{onto, parts, sourceTexts, entriesOf, opens, entriesNumber, entriesList}
 use Rattle.settings.specs.Limits.{positive}
 use Rattle.settings.specs.Sent.{unitText}
-use Rattle.settings.specs.declared.PressureUnit.the-variants.{Mbar, Torr, HPa}
+use Rattle.settings.specs.declared.PressureUnit.the-variants.{Torr}
 use Rattle.settings.specs.declared.Transition.the-variants.{Between}
 use Rattle.settings.specs.declared.Key.the-variants.{DA, DU, C1, CM, CC, FC, ST, SM}
 use Rattle.settings.specs.declared.Setting.the-variants.{Address, PressureIn, Factor, Control, Switch, Stream}
@@ -23,7 +23,6 @@ use Rattle.forms.specs.Judged.{verdictOf, ifSet, listIn}
 use Rattle.frames.specs.declared.HeadV2.{HeadV2}
 use Rattle.requests.specs.Command.{commandOf, commandText, findCommand, isAccess, canWrite, canRestore, lacksAccess}
 use Rattle.requests.specs.AskV2.{setOf, writeOf, askKnown, askNamed, askV2, writeList, namedList, askList}
-use Rattle.requests.specs.AskV1.{sixDigits, bareOf, digitOne, oneOf, unitAt, askV1}
 use Rattle.requests.specs.declared.Command.{Command}
 use Rattle.requests.specs.declared.Command.the-variants.{MV, T2, FN, FS, Of}
 use Rattle.requests.specs.declared.Named.{Named}
@@ -31,9 +30,6 @@ use Rattle.requests.specs.declared.Named.the-variants.{Known}
 use Rattle.requests.specs.declared.RequestV2.the-variants.{Read, Restore, Set}
 use Rattle.requests.specs.declared.AskV2.{AskV2}
 use Rattle.requests.specs.declared.AskV2.the-variants.{For, Refused}
-use Rattle.requests.specs.declared.RequestV1.the-variants.{Measure, ReadFactor, Unlock, SetFactor, ReadUnit, SetUnit}
-use Rattle.requests.specs.declared.AskV1.{AskV1}
-use Rattle.requests.specs.declared.AskV1.the-variants.{Asks, Denied}
 
 -- ---- the commands by their texts
 
@@ -145,49 +141,3 @@ paperV2 c = record { ask = c .ask; list = c .list }
 pub all-v2 : map askedV2 casesV2 ≡ map paperV2 casesV2
 unfolding bytes askV2 askNamed askKnown setOf writeOf askList namedList writeList commandOf findCommand commandText isAccess canWrite canRestore lacksAccess verdictOf ifSet listIn addressData unitData factorIn factorOf digitData digitOf limitedOf directOf betweenOf endsOf transitionOf transitionData idleList knownMode streamOf streamData numberOf answerOf scanOf unsignedOf fractionOf exponentOf powerOf leading startsWith normalOf sizeOf units plus minus belowOf countedOf hundredthsOf sourceText isSource findSource sourceOf onto parts sourceTexts entriesOf opens entriesNumber entriesList unitText within every sameText untilOf numeralFrom pick
 all-v2 = refl
-
--- ---- V1: letter, data, and what is asked
-
-pub record CaseV1 : Type 0 where
-  pub letter : List ℕ
-  pub text : List ℕ
-  pub ask : AskV1
-
-abbrev pub v1 : String → String → AskV1 → CaseV1
-v1 letter text ask = record { letter = bytes letter; text = bytes text; ask = ask }
-
-abbrev pub casesV1 : List CaseV1
-casesV1 =
-    v1 "M" "" (Asks Measure)
-    ∷ v1 "C" "1" (Asks ReadFactor)
-    ∷ v1 "c" "1" (Asks Unlock)
-    ∷ v1 "c" "000200" (Asks (SetFactor 200))
-    -- LOGIC or RANGE, as the gauge is locked or not
-    ∷ v1 "c" "000900" (Asks (SetFactor 900))
-    ∷ v1 "U" "" (Asks ReadUnit)
-    ∷ v1 "u" "000000" (Asks (SetUnit Mbar))
-    ∷ v1 "u" "000001" (Asks (SetUnit Torr))
-    ∷ v1 "u" "000002" (Asks (SetUnit HPa))
-    ∷ v1 "T" "" (Denied 8)
-    ∷ v1 "m" "" (Denied 8)
-    ∷ v1 "M" "1" (Denied 10)
-    ∷ v1 "U" "1" (Denied 10)
-    ∷ v1 "C" "" (Denied 10)
-    ∷ v1 "C" "2" (Denied 11)
-    ∷ v1 "C" "000100" (Denied 10)
-    ∷ v1 "c" "2" (Denied 11)
-    ∷ v1 "c" "0100" (Denied 10)
-    ∷ v1 "c" "00010x" (Denied 10)
-    ∷ v1 "u" "000003" (Denied 11)
-    ∷ v1 "u" "1" (Denied 10)
-    ∷ []
-
-abbrev pub askedV1 : CaseV1 → AskV1
-askedV1 c = askV1 (at (c .letter) 0) (c .text)
-
-abbrev pub paperV1 : CaseV1 → AskV1
-paperV1 c = c .ask
-
-pub all-v1 : map askedV1 casesV1 ≡ map paperV1 casesV1
-unfolding bytes askV1 sixDigits bareOf digitOne oneOf unitAt digitData within every numeralFrom pick
-all-v1 = refl

@@ -13,7 +13,7 @@ with-one-spec =
     (tie.spec
     (λ c κs. search needs)
     (λ c. search needs)
-    (λ c. rw (← (c .before .before .before .before .judge-digit .ensures), c .before .before .d .given .1) (stop _ _ _ _ (not-neqb _ 1 (c .if1 .taken)) refl))
+    (λ c. rw (← (c .before .before .before .before .judge-digit .ensures), c .before .before .d .given .1) (stop _ _ _ _ (not-neqb _ _ (c .if1 .taken)) refl))
     (λ c. search needs)
-    (λ c. rw (← (c .before .before .before .before .judge-digit .ensures), c .before .before .d .given .1) (past _ _ _ _ (not-eqb _ 1 (c .if1 .left)) refl))
+    (λ c. rw (← (c .before .before .before .before .judge-digit .ensures), c .before .before .d .given .1) (past _ _ _ _ (not-eqb _ _ (c .if1 .left)) refl))
     (λ c. rw (← (c .before .before .before .judge-digit .ensures), c .before .k .given .1)))

@@ -3,6 +3,7 @@ use mathlib.Core.Path.{_≡_, refl}
 use mathlib.Core.Bool.{true, false}
 use mathlib.Core.List.{List}
 use Prim.Native.Nat.{ℕ}
+use borrow.Author.Tests.{eqb-true}
 use lib.Dec.{eqb}
 use Rattle.frames.specs.Frame.{dataFrom, headV2}
 use Rattle.decimal.specs.Number.{belowOf}
@@ -25,7 +26,7 @@ use Rattle.gauge_table.specs.DecidedV1.{decidedV1}
 use Rattle.gauge_table.specs.Numbers.{number-v1}
 use Rattle.gauge_table.specs.After.{afterwards, nextOf, benched}
 use Rattle.gauge_facts.specs.Refused.{refused-keeps, readings-stay}
-use Rattle.gauge_facts.specs.Lemmas.Rows.{past-row}
+use Rattle.gauge_facts.specs.Typed.{passed}
 use Rattle.gauge_facts.specs.Lemmas.Entered.{v2-sound, v1-sound}
 
 pub record SoundState (g : State) : Type 0 where
@@ -39,14 +40,7 @@ fresh-sound = record { settings = factory-sound; readings = readings.start-sound
 module _ (g : State) (room : ℕ) (s : List ℕ) where
   -- an accepted V1 request is decided by the rules of V1
   pub decided : isV1 s ≡ true → eqb (numberOf g room s) 0 ≡ true → numberOf g room s ≡ decidedV1 g (askedV1 s)
-  unfolding numberOf
-  decided l e =
-      let a = past-row _ 1 _ refl e in
-      let b = past-row _ 2 _ refl (a .1) in
-      let c = past-row _ 3 _ refl (b .1) in
-      let d = past-row _ 4 _ refl (c .1) in
-      let f = past-row _ 5 _ refl (d .1) in
-      number-v1 s g room (a .0) (record { shape = b .0; sum = c .0; address = d .0 }) (f .0) l
+  decided l e = let p = passed g room s (eqb-true (numberOf g room s) 0 e) in number-v1 s g room (p .room-fits) (p .framed) (p .own) l
 
   accepted-v1 : SoundSettings (g .settings) → eqb (numberOf g room s) 0 ≡ true → isV1 s ≡ true → SoundSettings (nextOf g room s .settings)
   unfolding nextOf afterwards

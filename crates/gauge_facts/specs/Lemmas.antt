@@ -1,3 +1,6 @@
 -- What the theorems rest on.
 pub mod Rows
 pub mod Entered
+pub mod Refuses
+pub mod Asking
+pub mod Carried

@@ -11,7 +11,6 @@ use Rattle.buffer.specs.Quoted.{bytes}
 use Rattle.settings.specs.Settings.{factory}
 use Rattle.readings.specs.Reading.{start, isFaulty}
 use Rattle.requests.specs.AskV1.{sixDigits}
-use Rattle.gauge_rules.specs.State.{State}
 use Rattle.gauge_table.specs.Asked.{unknownLetter, badFormV1, lockedWrite, outsideV1, measuresFaulty}
 use Rattle.gauge_table.specs.DecidedV1.{rowsV1}
 

@@ -26,7 +26,7 @@ use Rattle.decimal_facts.specs.Accepts.{sound, no-form, value-exactly}
 use Rattle.forms_facts.specs.Lemmas.Lacks.{lacks, split, lacks-append}
 
 -- a text that is read is of the form
-read-form : (s : List ℕ) (n : Number) → numberOf s ≡ Value n → (p : Parts) × Good p × (textOf p ≡ s)
+pub read-form : (s : List ℕ) (n : Number) → numberOf s ≡ Value n → (p : Parts) × Good p × (textOf p ≡ s)
 read-form s n e = go (scanOf s) refl
   where
     go : (r : Scan) → scanOf s ≡ r → (p : Parts) × Good p × (textOf p ≡ s)

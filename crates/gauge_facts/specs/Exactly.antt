@@ -1,0 +1,130 @@
+-- "A request is accepted exactly if lent room, frame, checksum, address, command, access, data and state satisfy document 01", for V2 on the
+-- bytes themselves: they are the frame of a request that the paper allows. Assumes nothing.
+use mathlib.Core.Path.{_≡_, refl, sym, ap}
+use mathlib.Core.Bool.{false}
+use mathlib.Core.List.{List, [], _∷_}
+use mathlib.Core.Logic.{_↔_}
+use Prim.Native.Nat.{ℕ, _≤_}
+use native.Mathlib.Omega.{arith}
+use borrow.Author.Tests.{eqb-true, eq-eqb, ltb-false, le-ltb, not-false}
+use Rattle.buffer.specs.First.{pick}
+use Rattle.buffer.specs.Byte.{at}
+use Rattle.buffer.proofs.Laws.{within-in}
+use Rattle.frames.specs.Frame.{dataFrom, addressOf, headV2, frameOf}
+use Rattle.frames.specs.declared.HeadV2.{HeadV2}
+use Rattle.frames.specs.declared.Frame.the-variants.{V2}
+use Rattle.frame_writer.specs.Written.{frameV2}
+use Rattle.frames_facts.specs.ReadBack.{SendableV2}
+use Rattle.frames_facts.specs.Exactly.{frame-exactly-v2}
+use Rattle.requests.specs.Command.{commandText}
+use Rattle.requests.specs.AskV2.{askV2, askList}
+use Rattle.requests.specs.declared.RequestV2.{RequestV2}
+use Rattle.requests.specs.declared.AskV2.the-variants.{For}
+use Rattle.request_texts.specs.RequestText.{accessOf, commandIn, headFor}
+use Rattle.gauge_rules.specs.State.{State}
+use Rattle.gauge_rules.specs.RulesV2.{grantV2}
+use Rattle.gauge_table.specs.Asked.{isV1, askedV2}
+use Rattle.gauge_table.specs.Table.{answerRoom, otherAddress, numberOf}
+use Rattle.gauge_table.specs.DecidedV2.{decidedV2}
+use Rattle.gauge_table.specs.Numbers.{Tells, tells, number-v2}
+use Rattle.gauge_facts.specs.Kept.{SoundState}
+use Rattle.gauge_facts.specs.Request.{DataFor, Allowed}
+use Rattle.gauge_facts.specs.Typed.{Passed, passed, decided-as-v2, asks-v2}
+use Rattle.gauge_facts.specs.Lemmas.Asking.{asked-exactly, granted-exactly}
+use Rattle.gauge_facts.specs.Lemmas.Carried.{command-two, carried}
+
+-- the sources that a V2 frame lists
+abbrev pub askedList : List ℕ → List ℕ
+askedList s = askList (headV2 s) (dataFrom 8 s)
+
+-- the memory lent, the bytes and the state satisfy the paper, for the request r with this list of sources beside it: the frame has the
+-- gauge's address, the request's access code and command, and data d
+pub record Satisfies (g : State) (room : ℕ) (s : List ℕ) (r : RequestV2) (list d : List ℕ) : Type 0 where
+  pub room-fits : answerRoom ≤ room
+  pub frame : s ≡ frameV2 (headFor (g .settings .address) r) d
+  pub formed : DataFor r list d
+  pub allowed : Allowed g r
+
+module _ (g : State) (room : ℕ) (s : List ℕ) where
+  -- ---- what is accepted satisfies the paper
+
+  -- past the table's rows the bytes are a V2 frame
+  is-frame : isV1 s ≡ false → Passed g room s → frameOf s ≡ V2 (headV2 s)
+  unfolding frameOf pick
+  is-frame l p = rw (p .framed .shape, p .framed .sum, p .framed .address, l, p .counted l)
+
+  own-address : Passed g room s → addressOf s ≡ g .settings .address
+  own-address p = eqb-true _ _ (not-false _ (p .own))
+
+  -- the head is the request's
+  head-is : (r : RequestV2) → addressOf s ≡ g .settings .address → at s 3 ≡ accessOf r → at s 4 ∷ at s 5 ∷ [] ≡ commandText (commandIn r)
+      → headV2 s ≡ headFor (g .settings .address) r
+  unfolding headV2 headFor
+  head-is r a c e =
+      let p : at s 4 ≡ at (commandText (commandIn r)) 0 = ap (λ (t : List ℕ). at t 0) e in
+      let q : at s 5 ≡ at (commandText (commandIn r)) 1 = ap (λ (t : List ℕ). at t 1) e in
+      rw (a, c, p, q)
+
+  grants : (r : RequestV2) → numberOf g room s ≡ 0 → isV1 s ≡ false → askedV2 s ≡ For r → grantV2 g r ≡ 0
+  unfolding decidedV2
+  grants r z l e = rw e at (decided-as-v2 g room s z l)
+
+  to : (r : RequestV2) (list : List ℕ) → isV1 s ≡ false → numberOf g room s ≡ 0 → askedV2 s ≡ For r → askedList s ≡ list → (d : List ℕ) × Satisfies g room s r list d
+  unfolding headV2
+  to r list l z e f =
+      let p = passed g room s z in
+      let w = asked-exactly (headV2 s) (dataFrom 8 s) r list .0 (e, f) in
+      let h = head-is r (own-address p) (w .0) (w .1) in
+      let t = frame-exactly-v2 s (headV2 s) (dataFrom 8 s) .0 (is-frame l p, refl) in
+      (dataFrom 8 s, record { room-fits = ltb-false room answerRoom (p .room-fits); frame = rw h at (t .1); formed = w .2; allowed = granted-exactly g r .0 (grants r z l e) })
+
+  -- ---- and what satisfies it is accepted
+
+  module _ (r : RequestV2) (list d : List ℕ) (f : SoundState g) (h : Satisfies g room s r list d) where
+    sendable : SendableV2 (headFor (g .settings .address) r) d
+    sendable =
+        let a = f .settings .address in
+        carried (g .settings .address) r list d (within-in 1 999 (g .settings .address) (omega (arith, a .0)) (omega (arith, a .1))) (h .formed)
+
+    read : (frameOf s ≡ V2 (headFor (g .settings .address) r)) × (dataFrom 8 s ≡ d)
+    read = frame-exactly-v2 s (headFor (g .settings .address) r) d .1 (sendable, h .frame)
+
+    told : Tells s (V2 (headFor (g .settings .address) r))
+    told = rw (read .0) at (tells s)
+
+    asked : (askV2 (headFor (g .settings .address) r) d ≡ For r) × (askList (headFor (g .settings .address) r) d ≡ list)
+    unfolding headFor
+    asked = asked-exactly (headFor (g .settings .address) r) d r list .1 (refl, two, h .formed)
+      where
+        two : at (commandText (commandIn r)) 0 ∷ at (commandText (commandIn r)) 1 ∷ [] ≡ commandText (commandIn r)
+        two = command-two (commandIn r)
+
+    own : otherAddress g s ≡ false
+    unfolding headV2 headFor
+    own =
+        let e : g .settings .address ≡ addressOf s = ap (λ (k : HeadV2). k .address) (told .3) in
+        rw (eq-eqb (addressOf s) (g .settings .address) (sym e))
+
+    from : (isV1 s ≡ false) × (numberOf g room s ≡ 0) × (askedV2 s ≡ For r) × (askedList s ≡ list)
+    unfolding decidedV2
+    from =
+        let e : askedV2 s ≡ For r = rw (← (told .3), read .1) (asked .0) in
+        let l : askedList s ≡ list = rw (← (told .3), read .1) (asked .1) in
+        let n = number-v2 s g room (le-ltb room answerRoom (h .room-fits)) (told .0) own (told .1) (told .2) in
+        (told .1, rw (n, e) (granted-exactly g r .1 (h .allowed)), e, l)
+
+-- V2 bytes are accepted as the request r, with these sources, exactly if they satisfy the paper for it
+pub accepted-as : (g : State) (room : ℕ) (s : List ℕ) (r : RequestV2) (list : List ℕ) → SoundState g
+    → ((isV1 s ≡ false) × (numberOf g room s ≡ 0) × (askedV2 s ≡ For r) × (askedList s ≡ list)) ↔ ((d : List ℕ) × Satisfies g room s r list d)
+accepted-as g room s r list f = (λ w. to g room s r list (w .0) (w .1) (w .2) (w .3), λ w. from g room s r list (w .0) f (w .1))
+
+-- V2 bytes are accepted exactly if they satisfy the paper for some request
+pub accepted-v2-exactly : (g : State) (room : ℕ) (s : List ℕ) → SoundState g
+    → ((isV1 s ≡ false) × (numberOf g room s ≡ 0)) ↔ ((r : RequestV2) × (list : List ℕ) × (d : List ℕ) × Satisfies g room s r list d)
+accepted-v2-exactly g room s f = (there, λ w. let v = from g room s (w .0) (w .1) (w .2) f (w .3) in (v .0, v .1))
+  where
+    there : (isV1 s ≡ false) × (numberOf g room s ≡ 0) → (r : RequestV2) × (list : List ℕ) × (d : List ℕ) × Satisfies g room s r list d
+    there w =
+        let q = asks-v2 g room s (w .1) (w .0) in
+        let t = to g room s (q .0) (askedList s) (w .0) (w .1) (q .1) refl in
+        (q .0, askedList s, t .0, t .1)

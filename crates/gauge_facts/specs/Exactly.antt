@@ -1,37 +1,46 @@
--- "A request is accepted exactly if lent room, frame, checksum, address, command, access, data and state satisfy document 01", for V2 on the
--- bytes themselves: they are the frame of a request that the paper allows. Assumes nothing.
+-- "A request is accepted exactly if lent room, frame, checksum, address, command, access, data and state satisfy document 01", on the bytes
+-- themselves: they are the frame of a request that the paper allows. Assumes nothing.
 use mathlib.Core.Path.{_≡_, refl, sym, ap}
-use mathlib.Core.Bool.{false}
+use mathlib.Core.Bool.{true, false}
 use mathlib.Core.List.{List, [], _∷_}
 use mathlib.Core.Logic.{_↔_}
-use Prim.Native.Nat.{ℕ, _≤_}
+use Prim.Native.Nat.{ℕ}
 use native.Mathlib.Omega.{arith}
 use borrow.Author.Tests.{eqb-true, eq-eqb, ltb-false, le-ltb, not-false}
 use Rattle.buffer.specs.First.{pick}
 use Rattle.buffer.specs.Byte.{at}
 use Rattle.buffer.proofs.Laws.{within-in}
-use Rattle.frames.specs.Frame.{dataFrom, addressOf, headV2, frameOf}
+use Rattle.frames.specs.Frame.{dataFrom, addressOf, headV1, headV2, frameOf}
+use Rattle.frames.specs.declared.HeadV1.{HeadV1}
 use Rattle.frames.specs.declared.HeadV2.{HeadV2}
-use Rattle.frames.specs.declared.Frame.the-variants.{V2}
-use Rattle.frame_writer.specs.Written.{frameV2}
+use Rattle.frames.specs.declared.Frame.the-variants.{V1, V2}
+use Rattle.frame_writer.specs.Written.{frameV1, frameV2}
+use Rattle.frames_facts.specs.Shape.{Tells, tells}
 use Rattle.frames_facts.specs.ReadBack.{SendableV2}
-use Rattle.frames_facts.specs.Exactly.{frame-exactly-v2}
+use Rattle.frames_facts.specs.Exactly.{frame-exactly-v1, frame-exactly-v2}
 use Rattle.requests.specs.Command.{commandText}
 use Rattle.requests.specs.AskV2.{askV2, askList}
 use Rattle.requests.specs.declared.RequestV2.{RequestV2}
 use Rattle.requests.specs.declared.AskV2.the-variants.{For}
-use Rattle.request_texts.specs.RequestText.{accessOf, commandIn, headFor}
+use Rattle.requests.specs.declared.RequestV1.{RequestV1}
+use Rattle.requests.specs.declared.AskV1.the-variants.{Asks}
+use Rattle.request_texts.specs.RequestText.{accessOf, commandIn, headFor, letterV1, headForV1}
 use Rattle.gauge_rules.specs.State.{State}
 use Rattle.gauge_rules.specs.RulesV2.{grantV2}
-use Rattle.gauge_table.specs.Asked.{isV1, askedV2}
+use Rattle.gauge_rules_v1.specs.RulesV1.{grantV1}
+use Rattle.gauge_table.specs.Asked.{isV1, askedV2, askedV1}
 use Rattle.gauge_table.specs.Table.{answerRoom, otherAddress, numberOf}
 use Rattle.gauge_table.specs.DecidedV2.{decidedV2}
-use Rattle.gauge_table.specs.Numbers.{Tells, tells, number-v2}
+use Rattle.gauge_table.specs.DecidedV1.{decidedV1}
+use Rattle.gauge_table.specs.Numbers.{number-v1, number-v2}
 use Rattle.gauge_facts.specs.Kept.{SoundState}
-use Rattle.gauge_facts.specs.Request.{DataFor, Allowed}
-use Rattle.gauge_facts.specs.Typed.{Passed, passed, decided-as-v2, asks-v2}
+use Rattle.gauge_facts.specs.Request.{RoomFits, DataFor, Allowed, DataForV1, AllowedV1}
+use Rattle.gauge_facts.specs.Typed.{Passed, passed, decided-as-v1, decided-as-v2, asks-v1, asks-v2}
 use Rattle.gauge_facts.specs.Lemmas.Asking.{asked-exactly, granted-exactly}
 use Rattle.gauge_facts.specs.Lemmas.Carried.{command-two, carried}
+use Rattle.gauge_facts.specs.Lemmas.AskingV1.{asked-v1-exactly, carried-v1, granted-v1-exactly}
+
+-- ---- V2
 
 -- the sources that a V2 frame lists
 abbrev pub askedList : List ℕ → List ℕ
@@ -40,7 +49,7 @@ askedList s = askList (headV2 s) (dataFrom 8 s)
 -- the memory lent, the bytes and the state satisfy the paper, for the request r with this list of sources beside it: the frame has the
 -- gauge's address, the request's access code and command, and data d
 pub record Satisfies (g : State) (room : ℕ) (s : List ℕ) (r : RequestV2) (list d : List ℕ) : Type 0 where
-  pub room-fits : answerRoom ≤ room
+  pub room-fits : RoomFits room
   pub frame : s ≡ frameV2 (headFor (g .settings .address) r) d
   pub formed : DataFor r list d
   pub allowed : Allowed g r
@@ -128,3 +137,77 @@ accepted-v2-exactly g room s f = (there, λ w. let v = from g room s (w .0) (w .
         let q = asks-v2 g room s (w .1) (w .0) in
         let t = to g room s (q .0) (askedList s) (w .0) (w .1) (q .1) refl in
         (q .0, askedList s, t .0, t .1)
+
+-- ---- V1
+
+-- the memory lent, the bytes and the state satisfy the paper, for the request r: the frame has the gauge's address, the request's letter, and
+-- data d
+pub record SatisfiesV1 (g : State) (room : ℕ) (s : List ℕ) (r : RequestV1) (d : List ℕ) : Type 0 where
+  pub room-fits : RoomFits room
+  pub frame : s ≡ frameV1 (headForV1 (g .settings .address) r) d
+  pub formed : DataForV1 r d
+  pub allowed : AllowedV1 g r
+
+module _ (g : State) (room : ℕ) (s : List ℕ) where
+  is-frame-v1 : isV1 s ≡ true → Passed g room s → frameOf s ≡ V1 (headV1 s)
+  unfolding frameOf pick
+  is-frame-v1 l p = rw (p .framed .shape, p .framed .sum, p .framed .address, l)
+
+  head-is-v1 : (r : RequestV1) → addressOf s ≡ g .settings .address → at s 3 ≡ letterV1 r → headV1 s ≡ headForV1 (g .settings .address) r
+  unfolding headV1
+  head-is-v1 r a c = rw (a, c)
+
+  grants-v1 : (r : RequestV1) → numberOf g room s ≡ 0 → isV1 s ≡ true → askedV1 s ≡ Asks r → grantV1 g r ≡ 0
+  unfolding decidedV1
+  grants-v1 r z l e = rw e at (decided-as-v1 g room s z l)
+
+  to-v1 : (r : RequestV1) → isV1 s ≡ true → numberOf g room s ≡ 0 → askedV1 s ≡ Asks r → (d : List ℕ) × SatisfiesV1 g room s r d
+  to-v1 r l z e =
+      let p = passed g room s z in
+      let w = asked-v1-exactly (at s 3) (dataFrom 4 s) r .0 e in
+      let h = head-is-v1 r (own-address g room s p) (w .0) in
+      let t = frame-exactly-v1 s (headV1 s) (dataFrom 4 s) .0 (is-frame-v1 l p, refl) in
+      (dataFrom 4 s, record { room-fits = ltb-false room answerRoom (p .room-fits); frame = rw h at (t .1); formed = w .1; allowed = granted-v1-exactly g r .0 (grants-v1 r z l e) })
+
+  module _ (r : RequestV1) (d : List ℕ) (f : SoundState g) (h : SatisfiesV1 g room s r d) where
+    read-v1 : (frameOf s ≡ V1 (headForV1 (g .settings .address) r)) × (dataFrom 4 s ≡ d)
+    read-v1 =
+        let a = f .settings .address in
+        let c = carried-v1 (g .settings .address) r d (within-in 1 999 (g .settings .address) (omega (arith, a .0)) (omega (arith, a .1))) (h .formed) in
+        frame-exactly-v1 s (headForV1 (g .settings .address) r) d .1 (c, h .frame)
+
+    told-v1 : Tells s (V1 (headForV1 (g .settings .address) r))
+    told-v1 = rw (read-v1 .0) at (tells s)
+
+    own-v1 : otherAddress g s ≡ false
+    unfolding headV1
+    own-v1 =
+        let e : g .settings .address ≡ addressOf s = ap (λ (k : HeadV1). k .address) (told-v1 .2) in
+        rw (eq-eqb (addressOf s) (g .settings .address) (sym e))
+
+    letter-v1 : letterV1 r ≡ at s 3
+    unfolding headV1
+    letter-v1 = ap (λ (k : HeadV1). k .letter) (told-v1 .2)
+
+    from-v1 : (isV1 s ≡ true) × (numberOf g room s ≡ 0) × (askedV1 s ≡ Asks r)
+    unfolding decidedV1
+    from-v1 =
+        let e : askedV1 s ≡ Asks r = rw (read-v1 .1) (asked-v1-exactly (at s 3) d r .1 (sym letter-v1, h .formed)) in
+        let n = number-v1 s g room (le-ltb room answerRoom (h .room-fits)) (told-v1 .0) own-v1 (told-v1 .1) in
+        (told-v1 .1, rw (n, e) (granted-v1-exactly g r .1 (h .allowed)), e)
+
+-- V1 bytes are accepted as the request r exactly if they satisfy the paper for it
+pub accepted-as-v1 : (g : State) (room : ℕ) (s : List ℕ) (r : RequestV1) → SoundState g
+    → ((isV1 s ≡ true) × (numberOf g room s ≡ 0) × (askedV1 s ≡ Asks r)) ↔ ((d : List ℕ) × SatisfiesV1 g room s r d)
+accepted-as-v1 g room s r f = (λ w. to-v1 g room s r (w .0) (w .1) (w .2), λ w. from-v1 g room s r (w .0) f (w .1))
+
+-- V1 bytes are accepted exactly if they satisfy the paper for some request
+pub accepted-v1-exactly : (g : State) (room : ℕ) (s : List ℕ) → SoundState g
+    → ((isV1 s ≡ true) × (numberOf g room s ≡ 0)) ↔ ((r : RequestV1) × (d : List ℕ) × SatisfiesV1 g room s r d)
+accepted-v1-exactly g room s f = (there, λ w. let v = from-v1 g room s (w .0) (w .1) f (w .2) in (v .0, v .1))
+  where
+    there : (isV1 s ≡ true) × (numberOf g room s ≡ 0) → (r : RequestV1) × (d : List ℕ) × SatisfiesV1 g room s r d
+    there w =
+        let q = asks-v1 g room s (w .1) (w .0) in
+        let t = to-v1 g room s (q .0) (w .0) (w .1) (q .1) in
+        (q .0, t .0, t .1)

@@ -4,3 +4,4 @@ pub mod Entered
 pub mod Refuses
 pub mod Asking
 pub mod Carried
+pub mod AskingV1

@@ -1,19 +1,31 @@
--- What document 01 asks of a V2 request that is accepted: its data, and the rules on the gauge's state. Assumes nothing.
+-- What document 01 asks of a request that is accepted: its data, and the rules on the gauge's state. Assumes nothing.
 use mathlib.Core.Path.{_≡_}
 use mathlib.Core.Bool.{true, false}
-use mathlib.Core.List.{List, []}
-use Prim.Native.Nat.{ℕ}
+use mathlib.Core.List.{List, [], _∷_}
+use Prim.Native.Nat.{ℕ, _≤_}
+use lib.ListN.{length}
+use Rattle.buffer.specs.Byte.{isDigit, every, numeral}
 use Rattle.settings.specs.declared.Key.the-variants.{CC}
+use Rattle.settings.specs.declared.Setting.the-variants.{Factor}
 use Rattle.readings.specs.Reading.{isFaulty, isFailed}
 use Rattle.requests.specs.Command.{readCode, canRestore}
 use Rattle.requests.specs.declared.Command.the-variants.{MV, T2, Of}
 use Rattle.requests.specs.declared.RequestV2.{RequestV2}
 use Rattle.requests.specs.declared.RequestV2.the-variants.{Read, Restore, Set}
-use Rattle.request_texts.specs.RequestText.{accessOf, commandIn}
+use Rattle.requests.specs.declared.RequestV1.{RequestV1}
+use Rattle.requests.specs.declared.RequestV1.the-variants.{Measure, ReadFactor, Unlock, SetFactor, ReadUnit, SetUnit}
+use Rattle.request_texts.specs.RequestText.{accessOf, commandIn, unitCode}
 use Rattle.forms_facts.specs.Codes.{Short}
 use Rattle.forms_facts.specs.Sound.{Sound}
 use Rattle.forms_facts.specs.Form.{FormWith}
 use Rattle.gauge_rules.specs.State.{State}
+use Rattle.gauge_table.specs.Table.{answerRoom}
+
+-- 1: not "lent answer memory below 64 bytes"
+abbrev pub RoomFits : ℕ → Type 0
+RoomFits room = answerRoom ≤ room
+
+-- ---- V2
 
 -- the data of a request with this list of sources beside it: none with a read or a default, which the command must have; with a write the
 -- setting's form, and both within the limits
@@ -29,3 +41,27 @@ pub record Allowed (g : State) (r : RequestV2) : Type 0 where
   -- "the sensor asked for is faulty"
   pub pressure : r ≡ Read MV → isFaulty (g .readings .p0) ≡ false
   pub temperature : r ≡ Read T2 → isFailed (g .readings .t2) ≡ false
+
+-- ---- V1
+
+-- six digits that spell n
+abbrev pub SixDigits : ℕ → List ℕ → Type 0
+SixDigits n d = (length d ≡ 6) × (every isDigit d ≡ true) × (numeral d ≡ n)
+
+-- the data of a request: `M` and `U` have none, `C` and the unlock the digit 1, the writes six digits; "000000 mbar, 000001 Torr, 000002 hPa"
+abbrev pub DataForV1 : RequestV1 → List ℕ → Type 0
+DataForV1 Measure d = d ≡ []
+DataForV1 ReadFactor d = d ≡ 49 ∷ []
+DataForV1 Unlock d = d ≡ 49 ∷ []
+DataForV1 (SetFactor n) d = SixDigits n d
+DataForV1 ReadUnit d = d ≡ []
+DataForV1 (SetUnit u) d = SixDigits (unitCode u) d
+
+-- "`c` with six digits, if unlocked, writes 20 to 800"; a faulty sensor is not measured
+abbrev pub AllowedV1 : State → RequestV1 → Type 0
+AllowedV1 g Measure = isFaulty (g .readings .p0) ≡ false
+AllowedV1 g ReadFactor = Unit {0}
+AllowedV1 g Unlock = Unit {0}
+AllowedV1 g (SetFactor n) = (g .unlocked ≡ true) × Sound (Factor n)
+AllowedV1 g ReadUnit = Unit {0}
+AllowedV1 g (SetUnit u) = Unit {0}

@@ -16,6 +16,7 @@ use Rattle.frames.specs.Frame.{isLetter, wrongLength, headV1}
 use Rattle.frames.specs.declared.HeadV1.{HeadV1}
 use Rattle.frames.specs.declared.HeadV2.{HeadV2}
 use Rattle.frame_writer.specs.Written.{frameV1, frameV2}
+use Rattle.frames_facts.specs.Shape.{Framed}
 use Rattle.requests.specs.declared.RequestV2.{RequestV2}
 use Rattle.requests.specs.declared.RequestV1.{RequestV1}
 use Rattle.requests.specs.declared.AskV2.{AskV2}
@@ -28,7 +29,7 @@ use Rattle.gauge_table.specs.Asked.{isV1, askedV2, askedV1}
 use Rattle.gauge_table.specs.Table.{answerRoom, otherAddress, numberOf}
 use Rattle.gauge_table.specs.DecidedV2.{by, decidedV2}
 use Rattle.gauge_table.specs.DecidedV1.{decidedV1}
-use Rattle.gauge_table.specs.Numbers.{Framed, number-v1, number-v2}
+use Rattle.gauge_table.specs.Numbers.{number-v1, number-v2}
 use Rattle.gauge_table.specs.Reply.{acceptedV2, acceptedV1, replyOf}
 use Rattle.gauge_facts.specs.Refused.{silent-sends}
 use Rattle.gauge_facts.specs.Lemmas.Rows.{past-row}

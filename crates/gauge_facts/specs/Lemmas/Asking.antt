@@ -41,6 +41,10 @@ use Rattle.gauge_facts.specs.Lemmas.Rows.{past-row}
 
 -- ---- what is asked
 
+pub no-data : (d : List ℕ) → eqb (length d) 0 ≡ true → d ≡ []
+no-data [] e = refl
+no-data (x ∷ d) e = absurd (let z = eqb-true (length (x ∷ d)) 0 e in omega arith)
+
 -- a list and a request that go by the same test
 both : (P : List ℕ → AskV2 → Type 0) (t : Bool) (a c : List ℕ) (b d : AskV2) → (t ≡ true → P a b) → (t ≡ false → P c d) → P (pick t a c) (pick t b d)
 unfolding pick
@@ -68,13 +72,6 @@ module _ (a : ℕ) (d : List ℕ) where
   written FS w = tt
   written (Of key) w = set-told key (verdictOf key d) w refl
 
-  no-data : eqb (length d) 0 ≡ true → d ≡ []
-  no-data e = go d (eqb-true (length d) 0 e)
-    where
-      go : (t : List ℕ) → length t ≡ 0 → t ≡ []
-      go [] z = refl
-      go (x ∷ t) z = absurd (omega arith)
-
   restored : (c : Command) → lacksAccess a c ≡ false → d ≡ [] → a ≡ restoreCode → Told a (Known c) d [] (For (Restore c))
   unfolding lacksAccess accessOf commandIn pick
   restored c l e w = (w, refl, (not-false _ (rw w at l), e, refl))
@@ -93,7 +90,7 @@ module _ (a : ℕ) (d : List ℕ) where
       → Told a (Known c) d [] (pick (not (eqb (length d) 0)) (Refused 10) (pick (eqb a restoreCode) (For (Restore c)) (For (Read c))))
   unwritten c i l w =
       each (Told a (Known c) d []) (not (eqb (length d) 0)) (Refused 10) _ (λ _. tt)
-      (λ e. let z = no-data (not-false _ e) in each (Told a (Known c) d []) (eqb a restoreCode) (For (Restore c)) (For (Read c)) (λ t. restored c l z (eqb-true a restoreCode t)) (λ t. taken c i w t z))
+      (λ e. let z = no-data d (not-false _ e) in each (Told a (Known c) d []) (eqb a restoreCode) (For (Restore c)) (For (Read c)) (λ t. restored c l z (eqb-true a restoreCode t)) (λ t. taken c i w t z))
 
   named-told : (n : Named) → isAccess a ≡ true → Told a n d (namedList a n d) (askNamed a n d)
   unfolding namedList askNamed askKnown

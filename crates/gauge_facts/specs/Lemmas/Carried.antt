@@ -40,7 +40,7 @@ use Rattle.gauge_facts.specs.Request.{DataFor}
 
 -- ---- the text of a number
 
-digits-printed : (s : List ℕ) → every isDigit s ≡ true → Printed s
+pub digits-printed : (s : List ℕ) → every isDigit s ≡ true → Printed s
 unfolding every
 digits-printed [] e = refl
 digits-printed (x ∷ s) e =

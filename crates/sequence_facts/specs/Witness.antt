@@ -71,7 +71,7 @@ list-back : (list : List ℕ) → length list ≤ mostEntries → listOf (source
 unfolding listOf
 list-back list h = take-take (length list) mostEntries (list ++ replicate mostEntries 0) h ∙ take-append-seam list (replicate mostEntries 0)
 
-holds-back : (m : State) → SoundState m → stateOf (gaugeOf m) ≡ m
+pub holds-back : (m : State) → SoundState m → stateOf (gaugeOf m) ≡ m
 holds-back m f =
     ap
     (λ (list : List ℕ). record { settings = record { address = m .settings .address; unit = m .settings .unit; factor = m .settings .factor; control = m .settings .control; cathode = m .settings .cathode; filament = m .settings .filament; transition = m .settings .transition; streaming = m .settings .streaming; list = list }; readings = m .readings; unlocked = m .unlocked })

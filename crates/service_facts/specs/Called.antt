@@ -14,7 +14,7 @@ use Rattle.service_facts.specs.Stream.{repliesTo, stateAfter}
 use Rattle.service_facts.specs.Room.{enough-room}
 
 -- bytes stored at the front are what the front then holds
-over-front : (bytes memory after : List ℕ) (n : ℕ) → after ≡ over bytes memory → n ≡ length bytes → take n after ≡ bytes
+pub over-front : (bytes memory after : List ℕ) (n : ℕ) → after ≡ over bytes memory → n ≡ length bytes → take n after ≡ bytes
 unfolding over
 over-front bytes memory after n e l = ap (take n) e ∙ take-at bytes (drop (length bytes) memory) n (sym l)
 

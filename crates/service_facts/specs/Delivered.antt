@@ -67,7 +67,7 @@ kept-alike x b o =
 
 -- ---- deliveries
 
-same : {s s′ : State} {k k′ r r′ : List ℕ} → s ≡ s′ → k ≡ k′ → r ≡ r′
+pub same : {s s′ : State} {k k′ r r′ : List ℕ} → s ≡ s′ → k ≡ k′ → r ≡ r′
     → _≡_ {A = Progress} (record { state = s; kept = k; replies = r }) (record { state = s′; kept = k′; replies = r′ })
 same p q t = rw (p, q, t)
 

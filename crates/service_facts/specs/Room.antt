@@ -136,7 +136,7 @@ pub record All (g : State) (s : List ℕ) (g′ : State) (left replies : List �
   pub replies-are : replies ≡ repliesTo g (framesOf s)
 
 -- a call, and then the others
-join : (g g′ : State) (v : Service) (s left replies : List ℕ) → Front g (framesOf s) v → All (v .state) (drop (v .taken) s) g′ left replies
+pub join : (g g′ : State) (v : Service) (s left replies : List ℕ) → Front g (framesOf s) v → All (v .state) (drop (v .taken) s) g′ left replies
     → All g s g′ left (v .replies ++ replies)
 join g g′ v s left replies f r =
     let rest : split (drop (v .taken) s) ≡ record { frames = f .left; unfinished = unfinishedOf s } = rw (f .taken) (behind (f .done) (f .left) s (f .order)) in

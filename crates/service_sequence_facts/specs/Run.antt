@@ -1,0 +1,69 @@
+-- A stream of bytes that comes in pieces, served by calls of `service::serve` and `keep`, and what is claimed of it. Assumes nothing.
+use mathlib.Core.Path.{_≡_}
+use mathlib.Core.List.{List, [], _∷_, _++_}
+use Prim.Native.Nat.{ℕ, _+_, _≤_, _<_}
+use lib.ListN.{length, take, drop}
+use Rattle.gauge_rules.specs.State.{State, stateOf}
+use Rattle.gauge_rules.specs.declared.Gauge.{Gauge}
+use Rattle.gauge_table.specs.Table.{answerRoom}
+use Rattle.service.specs.Split.{framesOf, unfinishedOf}
+use Rattle.service.specs.Served.{Serves, mostKept, Keeps}
+use Rattle.service.specs.declared.Served.{Served}
+use Rattle.service_facts.specs.Stream.{served}
+use Rattle.history.specs.Latest.{Each}
+use Rattle.sequence_facts.specs.Sequence.{Exchange, asked, set, lined, History, Trace, Claim}
+use Rattle.service_sequence_facts.specs.Calls.{requestsOf, repliesOf}
+
+-- ---- a run
+
+-- Calls of `serve` for bytes that were read, up to one that takes none of them. Each has the gauge that the last one gave back and the bytes that
+-- it left, and is lent 64 bytes or more: no other memory is asked for. The gauge at the end, how many bytes were taken, and what was written.
+pub data AnswersAll : Gauge → List ℕ → Gauge → ℕ → List ℕ → Type 0 where
+  last : {g : Gauge} {input before after : List ℕ} {r : Served} → answerRoom ≤ length before → Serves (stateOf g) input before after r → r .taken ≡ 0
+      → AnswersAll g input (r .gauge) 0 (take (r .len) after)
+  call : {g g′ : Gauge} {input before after written : List ℕ} {r : Served} {taken : ℕ} → answerRoom ≤ length before → Serves (stateOf g) input before after r
+      → AnswersAll (r .gauge) (drop (r .taken) input) g′ taken written → AnswersAll g input g′ (r .taken + taken) (take (r .len) after ++ written)
+
+-- A run of a gauge g₀ that had the calls h (none from `Gauge::at_start`; bench settings where they came first): the pieces in which bytes came, the
+-- latest first, the gauge after them, the bytes that are kept, and all that was written. A piece comes behind the bytes that are kept, all of
+-- them are answered, and `keep` moves what was not taken to the front of the memory.
+pub data Run (h : History) (g₀ : Gauge) : List (List ℕ) → Gauge → List ℕ → List ℕ → Type 0 where
+  start : Trace h g₀ → Run h g₀ [] g₀ [] []
+  piece : {parts : List (List ℕ)} {g g′ : Gauge} {kept written bytes memory memory′ new : List ℕ} {end taken n : ℕ} → Run h g₀ parts g kept written
+      → take end memory ≡ kept ++ bytes → AnswersAll g (take end memory) g′ taken new → Keeps memory taken end memory′ n
+      → Run h g₀ (bytes ∷ parts) g′ (take n memory′) (written ++ new)
+
+-- ---- the claim
+
+-- all bytes that came, in order
+unfoldable pub streamOf : List (List ℕ) → List ℕ
+streamOf [] = []
+streamOf (bytes ∷ parts) = streamOf parts ++ bytes
+
+-- request for request the same. One of over 109 bytes, which is SHAPE, may be cut: where a piece ends within it, its first 110 bytes are kept
+pub data Same : List (List ℕ) → List (List ℕ) → Type 0 where
+  none : Same [] []
+  whole : {f : List ℕ} {a b : List (List ℕ)} → Same a b → Same (f ∷ a) (f ∷ b)
+  cut : {x f : List ℕ} {a b : List (List ℕ)} → 109 < length x → 109 < length f → take mostKept x ≡ take mostKept f → Same a b → Same (x ∷ a) (f ∷ b)
+
+-- a request, lent as much as an answer asks for
+abbrev pub Request : Exchange → Type 0
+Request (asked s before number len after) = answerRoom ≤ length before
+Request (set b number) = ⊥
+Request (lined before number len after) = ⊥
+
+-- The stream in any pieces is a sequence of calls: there is a history of requests, and no other calls, after which the gauge stands, so it has the
+-- claim. The requests are the frames of the whole stream in order, and their replies one after another are all that was written.
+pub record Streamed (h : History) (parts : List (List ℕ)) (g : Gauge) (written : List ℕ) : Type 0 where
+  pub made : History
+  pub only-requests : Each (λ earlier e. Request e) made
+  pub trace : Trace (made ++ h) g
+  pub claim : Claim (made ++ h) g
+  pub requests : Same (requestsOf made) (framesOf (streamOf parts))
+  pub replies : repliesOf made ≡ written
+
+-- and what it holds, keeps and has written is that of the whole stream served at once (`served`): the pieces have no influence
+pub record AsWhole (g₀ : State) (parts : List (List ℕ)) (g : Gauge) (kept written : List ℕ) : Type 0 where
+  pub state : stateOf g ≡ served g₀ (streamOf parts) .state
+  pub kept-is : kept ≡ served g₀ (streamOf parts) .kept
+  pub written-is : written ≡ served g₀ (streamOf parts) .replies

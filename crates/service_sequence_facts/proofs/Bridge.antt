@@ -13,7 +13,7 @@ use Rattle.gauge_table.specs.Table.{answerRoom}
 use Rattle.sequence_facts.specs.Sequence.{History, Trace}
 use Rattle.service_sequence_facts.specs.Calls.{Serving}
 use Rattle.service_sequence_facts.specs.Run.{AnswersAll, last, call, Run, piece}
-use Rattle.service_sequence_facts.specs.Served.{one-call}
+use Rattle.service_sequence_facts.specs.OneCall.{one-call}
 use Rattle.service.proofs.serve.Kinds as serve-kinds
 use Rattle.service.proofs.serve.Reads as serve-reads
 use Rattle.service.proofs.keep.Kinds as keep-kinds

@@ -28,8 +28,8 @@ Lent memory earlier (asked s before number len after) = (before ≡ drop (length
 Lent memory earlier (set b number) = ⊥
 Lent memory earlier (lined before number len after) = ⊥
 
--- A gauge that had the calls h was given these bytes and the memory `before`, and `serve` came back with r and left the memory `after`: so many
--- requests were made, one after another, and the gauge that came back has had these calls and no other.
+-- A gauge that had the calls h was given these bytes and the memory `before`, and `serve` came back with r and left the memory `after`: that is a
+-- number of requests, one after another. The gauge that came back is one that had these calls and no other since.
 pub record Serving (h : History) (input before after : List ℕ) (r : Served) : Type 0 where
   -- the calls that were made, the latest first: requests, each lent what was left of the memory
   pub made : History

@@ -17,16 +17,16 @@ use Rattle.service_sequence_facts.specs.Calls.{requestsOf, repliesOf}
 -- ---- a run
 
 -- Calls of `serve` for bytes that were read, up to one that takes none of them. Each has the gauge that the last one gave back and the bytes that
--- it left, and is lent 64 bytes or more: no other memory is asked for. The gauge at the end, how many bytes were taken, and what was written.
+-- it left, and is lent 64 bytes or more, whatever they hold. The gauge at the end, how many bytes were taken in all, and what was written.
 pub data AnswersAll : Gauge → List ℕ → Gauge → ℕ → List ℕ → Type 0 where
   last : {g : Gauge} {input before after : List ℕ} {r : Served} → answerRoom ≤ length before → Serves (stateOf g) input before after r → r .taken ≡ 0
       → AnswersAll g input (r .gauge) 0 (take (r .len) after)
   call : {g g′ : Gauge} {input before after written : List ℕ} {r : Served} {taken : ℕ} → answerRoom ≤ length before → Serves (stateOf g) input before after r
       → AnswersAll (r .gauge) (drop (r .taken) input) g′ taken written → AnswersAll g input g′ (r .taken + taken) (take (r .len) after ++ written)
 
--- A run of a gauge g₀ that had the calls h (none from `Gauge::at_start`; bench settings where they came first): the pieces in which bytes came, the
--- latest first, the gauge after them, the bytes that are kept, and all that was written. A piece comes behind the bytes that are kept, all of
--- them are answered, and `keep` moves what was not taken to the front of the memory.
+-- A run from a gauge g₀ that had the calls h (none where it comes from `Gauge::at_start`, or the bench settings of the program's arguments): the
+-- pieces in which bytes came, the latest first, the gauge after them, the bytes that are kept, and all that was written. A piece comes in memory
+-- behind the bytes that are kept, both are answered, and `keep` moves what was not taken to the front.
 pub data Run (h : History) (g₀ : Gauge) : List (List ℕ) → Gauge → List ℕ → List ℕ → Type 0 where
   start : Trace h g₀ → Run h g₀ [] g₀ [] []
   piece : {parts : List (List ℕ)} {g g′ : Gauge} {kept written bytes memory memory′ new : List ℕ} {end taken n : ℕ} → Run h g₀ parts g kept written

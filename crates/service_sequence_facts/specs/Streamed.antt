@@ -25,7 +25,7 @@ use Rattle.sequence_facts.specs.Sequence.{Exchange, asked, set, lined, History,
 use Rattle.sequence_facts.specs.Claimed.{claimed}
 use Rattle.service_sequence_facts.specs.Calls.{requestsOf, repliesOf, Lent, Serving}
 use Rattle.service_sequence_facts.specs.Run.{AnswersAll, last, call, Run, start, piece, streamOf, Same, none, whole, cut, Request, Streamed, AsWhole}
-use Rattle.service_sequence_facts.specs.Served.{one-call}
+use Rattle.service_sequence_facts.specs.OneCall.{one-call}
 
 -- ---- one history after another
 

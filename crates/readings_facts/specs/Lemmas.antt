@@ -1,3 +1,4 @@
 -- What the theorems rest on.
 pub mod Good
+pub mod Handed
 pub mod Others

@@ -16,12 +16,14 @@ use Rattle.sources.specs.Source.{mostEntries}
 use Rattle.settings.specs.Limits.{longest-is}
 use Rattle.settings.specs.Settings.{Held, held, factory}
 use Rattle.settings.specs.declared.Key.{Key}
-use Rattle.readings.specs.Reading.{start}
 use Rattle.readings.specs.Bench.{benchOf, benchNumber}
 use Rattle.readings.specs.declared.Readings.{Readings}
+use Rattle.readings.specs.declared.Bench.{Bench}
 use Rattle.readings.specs.declared.Benched.{Benched}
 use Rattle.readings.specs.declared.Benched.the-variants as bench
-use Rattle.readings_facts.specs.Place.{Place, readingAt}
+use Rattle.readings.specs.Place.{Place, codeOf, readingAt}
+use Rattle.readings.specs.There.{names}
+use Rattle.readings_facts.specs.Sound.{Machine}
 use Rattle.requests.specs.AskV2.{askList}
 use Rattle.line.specs.Line.{valuesOf, lineAnswer}
 use Rattle.gauge_rules.specs.State.{State, stateOf}
@@ -36,9 +38,9 @@ use Rattle.gauge_facts.specs.Lengths.{within-lent}
 use Rattle.gauge_facts.specs.Line.{line-fits, line-within-lent}
 use Rattle.history.specs.Latest.{orElse, latest, follows}
 use Rattle.sequence_facts.specs.Model.{step, modelOf}
-use Rattle.sequence_facts.specs.Sequence.{asked, set, lined, History, model, Trace, begin, ask, tell, show, AllFixed, Claim, holding, writes, forKey, saysSetting, forPlace, saysReading, isUnlock, saysUnlock}
+use Rattle.sequence_facts.specs.Sequence.{asked, set, lined, History, model, Trace, begin, ask, tell, show, AllFixed, Claim, holding, writes, forKey, saysSetting, sameCode, Origin, started, handed, saysReading, Stands, isUnlock, saysUnlock}
 use Rattle.sequence_facts.specs.Lemmas.Settings.{v2-says, v1-says}
-use Rattle.sequence_facts.specs.Lemmas.Readings.{reading-says}
+use Rattle.sequence_facts.specs.Lemmas.Readings.{accepted-stands}
 use Rattle.sequence_facts.specs.Lemmas.Unlock.{unlock-is}
 
 -- ---- one request, on what the model holds
@@ -70,10 +72,15 @@ unsaid a = refl
 -- ---- one bench setting
 
 module _ (m : State) where
-  reading-set : (p : Place) (x : Benched) → readingAt p (benched m x .readings) ≡ orElse (pick (eqb (benchNumber x) 0) (forPlace p x) none) (readingAt p (m .readings))
-  unfolding benched pick
-  reading-set p (bench.Accepted x) = reading-says p (m .readings) x
-  reading-set p bench.Refused = unsaid (readingAt p (m .readings))
+  reading-set : (p : Place) (o : Origin) (b : Bench) → Machine b → Stands p o (readingAt p (m .readings))
+      → Stands p (orElse (pick (eqb (benchNumber (benchOf b)) 0 && sameCode (names b) (codeOf p)) (some (handed b)) none) o) (readingAt p (benched m (benchOf b) .readings))
+  unfolding benched orElse pick
+  reading-set p o b k f = go (benchOf b) refl
+    where
+      go : (x : Benched) → benchOf b ≡ x
+          → Stands p (orElse (pick (eqb (benchNumber x) 0 && sameCode (names b) (codeOf p)) (some (handed b)) none) o) (readingAt p (benched m x .readings))
+      go (bench.Accepted x) e = accepted-stands p o (m .readings) b x k e f
+      go bench.Refused e = f
 
   settings-stay : (x : Benched) → benched m x .settings ≡ m .settings
   unfolding benched
@@ -92,7 +99,7 @@ record Sofar (h : History) (g : Gauge) : Type 0 where
   answers : AllFixed h
   holds : stateOf g ≡ model h
   setting : (key : Key) → holding key (stateOf g .settings) ≡ latest (saysSetting key) (holding key factory) h
-  reading : (p : Place) → readingAt p (stateOf g .readings) ≡ latest (saysReading p) (readingAt p start) h
+  reading : (p : Place) → Stands p (latest (saysReading p) started h) (readingAt p (stateOf g .readings))
   unlocked : stateOf g .unlocked ≡ latest saysUnlock false h
   sound : SoundState (stateOf g)
 
@@ -104,7 +111,7 @@ sent-within : {before after : List ℕ} {a : Answer} {w : Written} → length (a
 sent-within h f = rw (f .len) h
 
 sofar : {h : History} {g : Gauge} → Trace h g → Sofar h g
-unfolding modelOf step latest saysSetting saysReading saysUnlock answerOf
+unfolding modelOf step latest orElse saysSetting saysReading saysUnlock answerOf
 sofar (begin {g} e) =
     record {
       answers = tt;
@@ -122,7 +129,7 @@ sofar (ask {h} {g} {s} {before} {after} {r} t a) =
       answers = ((sent-too (ap (λ (m : State). answerOf m (length before) s) (c .holds)) (a .sent), sent-within (within-lent (stateOf g) (c .sound) (length before) s) (a .sent)), c .answers);
       holds = a .state ∙ ap (λ (m : State). nextOf m (length before) s) (c .holds);
       setting = λ key. follows (saysSetting key) (holding key factory) e h _ _ (c .setting key) (ap (λ (m : State). holding key (m .settings)) (a .state) ∙ rw n (setting-next (stateOf g) (length before) s key));
-      reading = λ p. follows (saysReading p) (readingAt p start) e h _ _ (c .reading p) (ap (λ (m : State). readingAt p (m .readings)) (a .state) ∙ ap (readingAt p) (readings-stay (stateOf g) (length before) s) ∙ unsaid _);
+      reading = λ p. rw (a .state, readings-stay (stateOf g) (length before) s) (c .reading p);
       unlocked = follows saysUnlock false e h _ _ (c .unlocked) (ap (λ (m : State). m .unlocked) (a .state) ∙ rw n (unlock-next (stateOf g) (length before) s));
       sound = rw (a .state) (next-sound (stateOf g) (length before) s (c .sound));
     }
@@ -133,7 +140,7 @@ sofar (tell {h} {g} {b} {r} t k a) =
       answers = (a .number, c .answers);
       holds = a .state ∙ ap (λ (m : State). benched m (benchOf b)) (c .holds);
       setting = λ key. follows (saysSetting key) (holding key factory) e h _ _ (c .setting key) (ap (λ (m : State). holding key (m .settings)) (a .state) ∙ ap (holding key) (settings-stay (stateOf g) (benchOf b)) ∙ unsaid _);
-      reading = λ p. follows (saysReading p) (readingAt p start) e h _ _ (c .reading p) (ap (λ (m : State). readingAt p (m .readings)) (a .state) ∙ rw (a .number) (reading-set (stateOf g) p (benchOf b)));
+      reading = λ p. rw (a .state, a .number) (reading-set (stateOf g) p (latest (saysReading p) started h) b k (c .reading p));
       unlocked = follows saysUnlock false e h _ _ (c .unlocked) (ap (λ (m : State). m .unlocked) (a .state) ∙ unlock-stays (stateOf g) (benchOf b) ∙ unsaid _);
       sound = rw (a .state) (bench-sound (stateOf g) b k (c .sound));
     }
@@ -144,7 +151,7 @@ sofar (show {h} {g} {before} {after} {w} t a) =
       answers = ((sent-too (ap (λ (m : State). lineAnswer (length before) (m .settings) (m .readings)) (c .holds)) a, sent-within (line-within-lent (length before) (held (g .settings)) (g .readings) (c .sound .settings .list .few)) a), c .answers);
       holds = c .holds;
       setting = λ key. follows (saysSetting key) (holding key factory) e h _ _ (c .setting key) (unsaid _);
-      reading = λ p. follows (saysReading p) (readingAt p start) e h _ _ (c .reading p) (unsaid _);
+      reading = c .reading;
       unlocked = follows saysUnlock false e h _ _ (c .unlocked) (unsaid _);
       sound = c .sound;
     }

@@ -23,10 +23,10 @@ use Rattle.readings.specs.Reading.{start}
 use Rattle.readings.specs.Bench.{benchOf, benchNumber}
 use Rattle.readings.specs.declared.Reading.{Reading}
 use Rattle.readings.specs.declared.Bench.{Bench}
-use Rattle.readings.specs.declared.Benched.{Benched}
-use Rattle.readings.specs.declared.Benched.the-variants as bench
+use Rattle.readings.specs.Place.{Place, codeOf, readingAt}
+use Rattle.readings.specs.There.{names}
+use Rattle.readings_facts.specs.Handed.{Handed}
 use Rattle.readings_facts.specs.Sound.{Machine}
-use Rattle.readings_facts.specs.Place.{Place, Source0, Source1, Source2, Source6, Source7, SourceT2, SourceT6, Status, placeOf, readingAt}
 use Rattle.requests.specs.AskV2.{askList}
 use Rattle.requests.specs.declared.Command.the-variants.{MV, T2, FN, FS, Of}
 use Rattle.requests.specs.declared.RequestV2.the-variants.{Read, Restore, Set}
@@ -166,26 +166,28 @@ saysSetting key (asked s before number len after) = pick (eqb number 0) (forKey 
 saysSetting key (set b number) = none
 saysSetting key (lined before number len after) = none
 
--- the places of readings by number
-unfoldable pub placeCode : Place → ℕ
-placeCode Source0 = 0
-placeCode Source1 = 1
-placeCode Source2 = 2
-placeCode Source6 = 3
-placeCode Source7 = 4
-placeCode SourceT2 = 5
-placeCode SourceT6 = 6
-placeCode Status = 7
+-- whether two codes are one; FS has none
+unfoldable pub sameCode : Option ℕ → Option ℕ → Bool
+sameCode none none = true
+sameCode none (some b) = false
+sameCode (some a) none = false
+sameCode (some a) (some b) = eqb a b
 
-unfoldable pub forPlace : Place → Benched → Option Reading
-forPlace p (bench.Accepted x) = pick (eqb (placeCode p) (placeCode (placeOf x))) (some x) none
-forPlace p bench.Refused = none
+-- where a reading is from: the start, or a bench setting
+pub data Origin : Type 0 where
+  started : Origin
+  handed : Bench → Origin
 
--- what a call says of a reading: an accepted bench setting, and nothing else
-unfoldable pub saysReading : Place → Exchange → Option Reading
+-- what a call says of a reading: a bench setting that names its source and was answered 0, and nothing else
+unfoldable pub saysReading : Place → Exchange → Option Origin
 saysReading p (asked s before number len after) = none
-saysReading p (set b number) = pick (eqb number 0) (forPlace p (benchOf b)) none
+saysReading p (set b number) = pick (eqb number 0 && sameCode (names b) (codeOf p)) (some (handed b)) none
 saysReading p (lined before number len after) = none
+
+-- the reading of a place that is from there: it is what it was at the start, or what the bench setting handed over
+abbrev pub Stands : Place → Origin → Reading → Type 0
+Stands p started x = x ≡ readingAt p start
+Stands p (handed b) x = Handed b x
 
 -- the bytes of an unlock: the letter `c` with the data `1`
 unfoldable pub isUnlock : List ℕ → Bool
@@ -207,7 +209,7 @@ pub record Claim (h : History) (g : Gauge) : Type 0 where
   -- "Each setting is what the last request accepted for it wrote or restored, or the factory value if none did."
   pub setting : (key : Key) → holding key (stateOf g .settings) ≡ latest (saysSetting key) (holding key factory) h
   -- "Each reading and FS is what the bench, accepted, last set there, or its start."
-  pub reading : (p : Place) → readingAt p (g .readings) ≡ latest (saysReading p) (readingAt p start) h
+  pub reading : (p : Place) → Stands p (latest (saysReading p) started h) (readingAt p (g .readings))
   -- "A gauge is unlocked exactly when the last V1 request past check 5 was an accepted unlock."
   pub unlocked : g .unlocked ≡ latest saysUnlock false h
   -- every value is within its limits; "A transition's lower end stays below its upper end."

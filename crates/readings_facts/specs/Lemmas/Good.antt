@@ -67,17 +67,17 @@ number-good code Syntax f = tt
 number-good code Range f = tt
 
 -- what is below zero has a size
-negative-some : (n : Number) → Canonical n → n .negative ≡ true → 0 < units n
+pub negative-some : (n : Number) → Canonical n → n .negative ≡ true → 0 < units n
 unfolding units
 negative-some n (inl e) h = absurd (let z : _≡_ {A = ℕ} 0 1 = ap (λ (b : Bool). cond b 0 1) (sym h ∙ ap (λ (k : Number). k .negative) e) in omega arith)
 negative-some n (inr f) h = units-pos (n .mantissa) (n .place) (omega (arith, f .low))
 
 -- and so has its count of hundredths
-abbrev Counted : Number → Hundredths → Type 0
+abbrev pub Counted : Number → Hundredths → Type 0
 Counted n (Whole h) = units n ≡ h * 10 ^ 12
 Counted n Other = Unit {0}
 
-counted : (n : Number) → Counted n (hundredthsOf n)
+pub counted : (n : Number) → Counted n (hundredthsOf n)
 unfolding hundredthsOf countedOf
 counted n =
     each (Counted n) (not (eqb (units n % 10 ^ 12) 0)) Other _ (λ _. tt)
@@ -86,7 +86,7 @@ counted n =
 
 in-limits : (negative : Bool) (h : ℕ) → (negative ≡ true → 1 ≤ h) → h ≤ cond negative 4000 12500 → SoundTemperature (Degrees negative h)
 in-limits true h f k = (f refl, k)
-in-limits false h f k = k
+in-limits false h f k = omega arith
 
 degrees-good : (code : ℕ) (negative : Bool) (h : Hundredths) → ((k : ℕ) → h ≡ Whole k → negative ≡ true → 1 ≤ k) → Good (degreesOf code negative h)
 unfolding degreesOf

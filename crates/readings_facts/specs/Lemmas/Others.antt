@@ -4,7 +4,7 @@ use Rattle.readings.specs.Reading.{putReading}
 use Rattle.readings.specs.declared.Reading.{Reading}
 use Rattle.readings.specs.declared.Reading.the-variants.{P0, P1, P2, P6, P7, T2, T6, FS}
 use Rattle.readings.specs.declared.Readings.{Readings}
-use Rattle.readings_facts.specs.Place.{Place, Source0, Source1, Source2, Source6, Source7, SourceT2, SourceT6, Status, placeOf, readingAt}
+use Rattle.readings.specs.Place.{Place, Source0, Source1, Source2, Source6, Source7, SourceT2, SourceT6, Status, placeOf, readingAt}
 
 pub others : (r : Readings) (x : Reading) (p : Place) → (p ≡ placeOf x → ⊥) → readingAt p (putReading r x) ≡ readingAt p r
 unfolding putReading readingAt placeOf

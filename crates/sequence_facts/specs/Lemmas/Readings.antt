@@ -1,37 +1,53 @@
--- What the bench sets is what it says of each reading. Assumes nothing.
-use mathlib.Core.Path.{_≡_, refl}
+-- A bench setting that is accepted hands over the reading of the source that it names, and no other changes. Assumes nothing.
+use mathlib.Core.Path.{_≡_, refl, sym, ap, _∙_}
+use mathlib.Core.Bool.{true, false, true≢false}
+use mathlib.Core.Option.{Option, none, some}
+use Prim.Native.Nat.{ℕ}
+use borrow.Author.Tests.{eq-eqb, eqb-true}
 use Rattle.buffer.specs.First.{pick}
+use Rattle.readings.specs.Bench.{benchOf}
+use Rattle.readings.specs.Place.{Place, codeOf, placeOf, readingAt}
 use Rattle.readings.specs.Reading.{putReading}
+use Rattle.readings.specs.There.{names}
 use Rattle.readings.specs.declared.Reading.{Reading}
-use Rattle.readings.specs.declared.Reading.the-variants.{P0, P1, P2, P6, P7, T2, T6, FS}
 use Rattle.readings.specs.declared.Readings.{Readings}
+use Rattle.readings.specs.declared.Bench.{Bench}
 use Rattle.readings.specs.declared.Benched.the-variants.{Accepted}
-use Rattle.readings_facts.specs.Place.{Place, Source0, Source1, Source2, Source6, Source7, SourceT2, SourceT6, Status, placeOf, readingAt}
+use Rattle.readings_facts.specs.Accepts.{bench-exactly}
+use Rattle.readings_facts.specs.Handed.{Handed}
+use Rattle.readings_facts.specs.Places.{get-put, get-other, code-one}
+use Rattle.readings_facts.specs.Sound.{Machine}
+use Rattle.gauge_table.specs.DecidedV2.{by}
 use Rattle.history.specs.Latest.{orElse}
-use Rattle.sequence_facts.specs.Sequence.{placeCode, forPlace}
+use Rattle.sequence_facts.specs.Sequence.{sameCode, Origin, handed, Stands}
 
--- what holds of each place holds of every place
-every-place : (P : Place → Type 0) → P Source0 → P Source1 → P Source2 → P Source6 → P Source7 → P SourceT2 → P SourceT6 → P Status → (p : Place) → P p
-every-place P p0 p1 p2 p6 p7 t2 t6 fs Source0 = p0
-every-place P p0 p1 p2 p6 p7 t2 t6 fs Source1 = p1
-every-place P p0 p1 p2 p6 p7 t2 t6 fs Source2 = p2
-every-place P p0 p1 p2 p6 p7 t2 t6 fs Source6 = p6
-every-place P p0 p1 p2 p6 p7 t2 t6 fs Source7 = p7
-every-place P p0 p1 p2 p6 p7 t2 t6 fs SourceT2 = t2
-every-place P p0 p1 p2 p6 p7 t2 t6 fs SourceT6 = t6
-every-place P p0 p1 p2 p6 p7 t2 t6 fs Status = fs
+same-code : (a b : Option ℕ) → sameCode a b ≡ true → a ≡ b
+unfolding sameCode
+same-code none none e = refl
+same-code none (some b) e = absurd (true≢false (sym e))
+same-code (some a) none e = absurd (true≢false (sym e))
+same-code (some a) (some b) e = ap some (eqb-true a b e)
 
--- one law over the places: a reading that is put stands at its own place, and every other place keeps what it had
-abbrev Says : Readings → Reading → Place → Type 0
-Says r x p = readingAt p (putReading r x) ≡ orElse (forPlace p (Accepted x)) (readingAt p r)
+code-same : (a b : Option ℕ) → a ≡ b → sameCode a b ≡ true
+unfolding sameCode
+code-same none none e = refl
+code-same none (some b) e = cc
+code-same (some a) none e = cc
+code-same (some a) (some b) e = eq-eqb a b (cc)
 
-pub reading-says : (p : Place) (r : Readings) (x : Reading) → Says r x p
-unfolding readingAt putReading orElse forPlace placeCode placeOf pick
-reading-says p r (P0 v) = every-place (Says r (P0 v)) refl refl refl refl refl refl refl refl p
-reading-says p r (P1 v) = every-place (Says r (P1 v)) refl refl refl refl refl refl refl refl p
-reading-says p r (P2 v) = every-place (Says r (P2 v)) refl refl refl refl refl refl refl refl p
-reading-says p r (P6 v) = every-place (Says r (P6 v)) refl refl refl refl refl refl refl refl p
-reading-says p r (P7 v) = every-place (Says r (P7 v)) refl refl refl refl refl refl refl refl p
-reading-says p r (T2 v) = every-place (Says r (T2 v)) refl refl refl refl refl refl refl refl p
-reading-says p r (T6 v) = every-place (Says r (T6 v)) refl refl refl refl refl refl refl refl p
-reading-says p r (FS v) = every-place (Says r (FS v)) refl refl refl refl refl refl refl refl p
+module _ (p : Place) (o : Origin) (r : Readings) (b : Bench) (x : Reading) (m : Machine b) (e : benchOf b ≡ Accepted x) where
+  there : names b ≡ codeOf (placeOf x)
+  there = bench-exactly b x m .0 e .there
+
+  named : names b ≡ codeOf p → Handed b (readingAt p (putReading r x))
+  named c = rw (code-one p (placeOf x) (sym c ∙ there), get-put r x) (bench-exactly b x m .0 e .handed)
+
+  unnamed : sameCode (names b) (codeOf p) ≡ false → readingAt p (putReading r x) ≡ readingAt p r
+  unnamed c = get-other r x p (λ (q : p ≡ placeOf x). true≢false (sym (code-same (names b) (codeOf p) (there ∙ ap codeOf (sym q))) ∙ c))
+
+  pub accepted-stands : Stands p o (readingAt p r) → Stands p (orElse (pick (sameCode (names b) (codeOf p)) (some (handed b)) none) o) (readingAt p (putReading r x))
+  unfolding orElse pick
+  accepted-stands f =
+      by (sameCode (names b) (codeOf p))
+      (λ c. rw c (named (same-code (names b) (codeOf p) c)))
+      (λ c. rw (c, unnamed c) f)

@@ -1,7 +1,9 @@
--- The places of the readings: each source's, and FS. Assumes nothing.
+-- The places of the readings: each source's, and FS; the code that names a source. Assumes nothing.
+use mathlib.Core.Option.{Option, none, some}
+use Prim.Native.Nat.{ℕ}
 use Rattle.readings.specs.declared.Reading.{Reading}
 use Rattle.readings.specs.declared.Reading.the-variants.{P0, P1, P2, P6, P7, T2, T6, FS}
 use Rattle.readings.specs.declared.Readings.{Readings}
 
 pub data Place : Type 0 where
   Source0 : Place
@@ -12,6 +14,17 @@ pub data Place : Type 0 where
   SourceT2 : Place
   SourceT6 : Place
   Status : Place
+
+-- the code of a source, in bench calls and in lists: its digit, 8 for `T2`, 9 for `T6`. FS is no source and has none
+unfoldable pub codeOf : Place → Option ℕ
+codeOf Source0 = some 0
+codeOf Source1 = some 1
+codeOf Source2 = some 2
+codeOf Source6 = some 6
+codeOf Source7 = some 7
+codeOf SourceT2 = some 8
+codeOf SourceT6 = some 9
+codeOf Status = none
 
 -- the place that a reading is for
 unfoldable pub placeOf : Reading → Place

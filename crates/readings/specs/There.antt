@@ -1,28 +1,25 @@
 -- A bench setting is for the source that it names, and the line shows each source's own reading. Assumes nothing.
 use mathlib.Core.Path.{_≡_, refl, ap}
-use mathlib.Core.Bool.{Bool, cond, not}
+use mathlib.Core.Bool.{Bool}
 use mathlib.Core.List.{List, [], _∷_}
 use mathlib.Core.Option.{Option, none, some}
 use Prim.Native.Nat.{ℕ}
 use native.Mathlib.Omega.{arith}
 use borrow.Author.Tests.{eqb-true}
-use lib.Dec.{eqb, leb, ltb}
+use lib.Dec.{eqb}
 use Rattle.buffer.specs.First.{pick}
 use Rattle.buffer.specs.Byte.{digit}
 use Rattle.buffer.proofs.Rules.{each}
-use Rattle.decimal.specs.Exact.{normalOf}
 use Rattle.decimal.specs.Number.{hundredthsOf}
 use Rattle.decimal.specs.declared.Parsed.{Parsed}
 use Rattle.decimal.specs.declared.Parsed.the-variants.{Value, Syntax, Range}
 use Rattle.decimal.specs.declared.Hundredths.{Hundredths}
 use Rattle.decimal.specs.declared.Hundredths.the-variants.{Whole, Other}
-use Rattle.readings.specs.Bench.{takes, pressureAt, temperatureAt, pressureOf, degreesOf, temperatureOf, benchOf}
+use Rattle.readings.specs.Bench.{pressureAt, temperatureAt, pressureOf, degreesOf, temperatureOf, benchOf}
 use Rattle.readings.specs.Place.{Place, Source0, Source1, Source2, Source6, Source7, SourceT2, SourceT6, Status, codeOf, placeOf, readingAt}
 use Rattle.readings.specs.Reading.{pressureText, temperatureText, valueText}
 use Rattle.readings.specs.declared.Pressure.{Pressure}
-use Rattle.readings.specs.declared.Pressure.the-variants.{Measured, Under, Over, Faulty}
 use Rattle.readings.specs.declared.Temperature.{Temperature}
-use Rattle.readings.specs.declared.Temperature.the-variants.{Degrees, Failed}
 use Rattle.readings.specs.declared.Reading.{Reading}
 use Rattle.readings.specs.declared.Reading.the-variants.{P0, P1, P2, P6, P7, T2, T6, FS}
 use Rattle.readings.specs.declared.Readings.{Readings}
@@ -62,14 +59,13 @@ temperature-there code t =
 
 number-there : (code : ℕ) (p : Parsed) → There (some code) (pressureOf code p)
 unfolding pressureOf
-number-there code (Value n) = each (There (some code)) (not (takes code n)) Refused (pressureAt code (Measured n)) (λ _. tt) (λ _. pressure-there code (Measured n))
+number-there code (Value n) = each (There (some code)) _ _ _ (λ _. tt) (λ _. pressure-there code _)
 number-there code Syntax = tt
 number-there code Range = tt
 
 degrees-there : (code : ℕ) (negative : Bool) (h : Hundredths) → There (some code) (degreesOf code negative h)
 unfolding degreesOf
-degrees-there code negative (Whole h) =
-    each (There (some code)) (ltb (cond negative 4000 12500) h) Refused (temperatureAt code (Degrees negative h)) (λ _. tt) (λ _. temperature-there code (Degrees negative h))
+degrees-there code negative (Whole h) = each (There (some code)) _ _ _ (λ _. tt) (λ _. temperature-there code _)
 degrees-there code negative Other = tt
 
 celsius-there : (code : ℕ) (p : Parsed) → There (some code) (temperatureOf code p)
@@ -80,13 +76,11 @@ celsius-there code Range = tt
 
 there : (b : Bench) → There (names b) (benchOf b)
 unfolding benchOf names codeOf placeOf
-there (Reads code x) =
-    each (There (some code)) (leb 8 code) (temperatureOf code (normalOf x)) (pressureOf code (normalOf x)) (λ _. celsius-there code (normalOf x)) (λ _. number-there code (normalOf x))
-there (BelowRange code) = pressure-there code Under
-there (AboveRange code) = pressure-there code Over
-there (Fault code) =
-    each (There (some code)) (leb 8 code) (temperatureAt code Failed) (pressureAt code Faulty) (λ _. temperature-there code Failed) (λ _. pressure-there code Faulty)
-there (bench.Status v) = each (There none) (leb 4 v) Refused (Accepted (FS v)) (λ _. tt) (λ _. refl)
+there (Reads code x) = each (There (some code)) _ _ _ (λ _. celsius-there code _) (λ _. number-there code _)
+there (BelowRange code) = pressure-there code _
+there (AboveRange code) = pressure-there code _
+there (Fault code) = each (There (some code)) _ _ _ (λ _. temperature-there code _) (λ _. pressure-there code _)
+there (bench.Status v) = each (There none) _ _ _ (λ _. tt) (λ _. refl)
 
 -- an accepted bench setting sets the reading of the source that it names, and one for FS sets FS
 pub bench-there : (b : Bench) (x : Reading) → benchOf b ≡ Accepted x → names b ≡ codeOf (placeOf x)

@@ -1,12 +1,12 @@
 -- What the bench accepts is what was handed over, and what is handed over and allowed is accepted. Assumes nothing.
 use mathlib.Core.Path.{_≡_, refl, sym, ap, _∙_}
-use mathlib.Core.Bool.{Bool, true, false, cond, not, _||_}
+use mathlib.Core.Bool.{Bool, true, false, cond, _||_}
 use mathlib.Core.Option.{some}
 use Prim.Native.Nat.{ℕ, zero, suc, _*_, _^_, _<_, _≤_}
 use native.Mathlib.Nat.{eq-of-mul-eq-mul-right, mul-pos}
 use native.Mathlib.Omega.{arith}
 use borrow.Author.Tests.{le-ltb, lt-leb}
-use lib.Dec.{eqb, ltb, leb}
+use lib.Dec.{eqb, leb}
 use Rattle.buffer.specs.First.{pick}
 use Rattle.buffer.proofs.Rules.{each}
 use Rattle.decimal.specs.Exact.{units, normalOf}
@@ -30,7 +30,7 @@ use Rattle.readings.specs.There.{names}
 use Rattle.readings.specs.declared.Pressure.{Pressure}
 use Rattle.readings.specs.declared.Pressure.the-variants.{Measured, Under, Over, Faulty}
 use Rattle.readings.specs.declared.Temperature.{Temperature}
-use Rattle.readings.specs.declared.Temperature.the-variants.{Degrees, Failed}
+use Rattle.readings.specs.declared.Temperature.the-variants.{Degrees}
 use Rattle.readings.specs.declared.Reading.{Reading}
 use Rattle.readings.specs.declared.Reading.the-variants.{P0, P1, P2, P6, P7, T2, T6, FS}
 use Rattle.readings.specs.declared.Readings.{Readings}
@@ -73,23 +73,23 @@ Overs b Refused = Unit {0}
 pressure-over : (b : Bench) (code : ℕ) (p : Pressure) → HandedPressure b p → Overs b (pressureAt code p)
 unfolding pressureAt
 pressure-over b code p f =
-    each (Overs b) (eqb code 0) (Accepted (P0 p)) _ (λ _. f)
-    (λ _. each (Overs b) (eqb code 1) (Accepted (P1 p)) _ (λ _. f)
-    (λ _. each (Overs b) (eqb code 2) (Accepted (P2 p)) _ (λ _. f)
-    (λ _. each (Overs b) (eqb code 6) (Accepted (P6 p)) _ (λ _. f)
-    (λ _. each (Overs b) (eqb code 7) (Accepted (P7 p)) Refused (λ _. f) (λ _. tt)))))
+    each (Overs b) _ _ _ (λ _. f)
+    (λ _. each (Overs b) _ _ _ (λ _. f)
+    (λ _. each (Overs b) _ _ _ (λ _. f)
+    (λ _. each (Overs b) _ _ _ (λ _. f)
+    (λ _. each (Overs b) _ _ _ (λ _. f) (λ _. tt)))))
 
 temperature-over : (b : Bench) (code : ℕ) (t : Temperature) → HandedTemperature b t → Overs b (temperatureAt code t)
 unfolding temperatureAt
 temperature-over b code t f =
-    each (Overs b) (eqb code 8) (Accepted (T2 t)) _ (λ _. f)
-    (λ _. each (Overs b) (eqb code 9) (Accepted (T6 t)) Refused (λ _. f) (λ _. tt))
+    each (Overs b) _ _ _ (λ _. f)
+    (λ _. each (Overs b) _ _ _ (λ _. f) (λ _. tt))
 
 module _ (code : ℕ) (x : Exact) where
   number-over : (p : Parsed) → ((n : Number) → p ≡ Value n → Exactly x n) → Overs (Reads code x) (pressureOf code p)
   unfolding pressureOf
   number-over (Value n) f =
-      each (Overs (Reads code x)) (not (takes code n)) Refused (pressureAt code (Measured n)) (λ _. tt) (λ _. pressure-over (Reads code x) code (Measured n) (value (f n refl)))
+      each (Overs (Reads code x)) _ _ _ (λ _. tt) (λ _. pressure-over (Reads code x) code _ (value (f n refl)))
   number-over Syntax f = tt
   number-over Range f = tt
 
@@ -107,8 +107,7 @@ module _ (code : ℕ) (x : Exact) where
   degrees-over : (negative : Bool) (h : counts.Hundredths) → ((k : ℕ) → h ≡ Whole k → Hundredths x negative k) → Overs (Reads code x) (degreesOf code negative h)
   unfolding degreesOf
   degrees-over negative (Whole h) f =
-      each (Overs (Reads code x)) (ltb (cond negative 4000 12500) h) Refused (temperatureAt code (Degrees negative h)) (λ _. tt)
-      (λ _. temperature-over (Reads code x) code (Degrees negative h) (degrees (f h refl)))
+      each (Overs (Reads code x)) _ _ _ (λ _. tt) (λ _. temperature-over (Reads code x) code _ (degrees (f h refl)))
   degrees-over negative Other f = tt
 
   celsius-over : (p : Parsed) → ((n : Number) → p ≡ Value n → Exactly x n) → Overs (Reads code x) (temperatureOf code p)
@@ -120,14 +119,13 @@ module _ (code : ℕ) (x : Exact) where
 all-over : (b : Bench) → Machine b → Overs b (benchOf b)
 unfolding benchOf
 all-over (Reads code x) m =
-    each (Overs (Reads code x)) (leb 8 code) (temperatureOf code (normalOf x)) (pressureOf code (normalOf x))
+    each (Overs (Reads code x)) _ _ _
     (λ _. celsius-over code x (normalOf x) (λ n. number-exactly code x n m .0)) (λ _. number-over code x (normalOf x) (λ n. number-exactly code x n m .0))
-all-over (BelowRange code) m = pressure-over (BelowRange code) code Under under
-all-over (AboveRange code) m = pressure-over (AboveRange code) code Over over
+all-over (BelowRange code) m = pressure-over (BelowRange code) code _ under
+all-over (AboveRange code) m = pressure-over (AboveRange code) code _ over
 all-over (Fault code) m =
-    each (Overs (Fault code)) (leb 8 code) (temperatureAt code Failed) (pressureAt code Faulty)
-    (λ _. temperature-over (Fault code) code Failed failed) (λ _. pressure-over (Fault code) code Faulty faulty)
-all-over (Status v) m = each (Overs (Status v)) (leb 4 v) Refused (Accepted (FS v)) (λ _. tt) (λ _. refl)
+    each (Overs (Fault code)) _ _ _ (λ _. temperature-over (Fault code) code _ failed) (λ _. pressure-over (Fault code) code _ faulty)
+all-over (Status v) m = each (Overs (Status v)) _ _ _ (λ _. tt) (λ _. refl)
 
 pub handed-over : (b : Bench) (x : Reading) → Machine b → benchOf b ≡ Accepted x → Handed b x
 handed-over b x m e = rw e at (all-over b m)

@@ -11,7 +11,7 @@ use lib.Dec.{eqb, leb, ltb}
 use lib.ListN.{length, take, drop, getD, set, replicate, length-append, length-take, length-map}
 use lib.Seq.{sets, sets-eq, drop-cons, take-append-seam}
 use Rattle.buffer.specs.First.{pick}
-use Rattle.buffer.specs.Byte.{at, untilOf}
+use Rattle.buffer.specs.Byte.{at, within, untilOf}
 use Rattle.buffer.specs.Answer.{silent, Stored}
 use Rattle.buffer.proofs.Rules.{each}
 use Rattle.buffer.proofs.Laws.{sets-sets, drop-step}
@@ -20,7 +20,7 @@ use Rattle.settings.specs.Limits.{standard, widthOf, longestLine, longest-is}
 use Rattle.settings.specs.Settings.{Held}
 use Rattle.readings.specs.Reading.{valueText}
 use Rattle.readings.specs.declared.Readings.{Readings}
-use Rattle.readings.proofs.Laws.{value-le, value-some, value-clean}
+use Rattle.readings.proofs.Laws.{shown, value-le, value-some, value-clean}
 use Rattle.line.specs.Line.{valueOf, valuesOf, tailOf, joined, lineAnswer}
 use Rattle.line.specs.Rows.{noRow, rowOf, rowsOf, rowText, tailRows, lineOf}
 
@@ -157,12 +157,12 @@ width-some c = each (λ (n : ℕ). 1 ≤ n) (eqb c 7) 11 (pick (leb 8 c) 6 10) (
 
 -- none is empty, or has a zero or more characters than a row holds
 value-fits : (r : Readings) (c : ℕ) → Fits (valueOf r c)
-unfolding valueOf
+unfolding valueOf shown within
 value-fits r c =
     record {
       le = simp length-take (omega (arith, value-le c r));
       some = simp length-take (omega (arith, value-some c r, width-some c));
-      clean = clean-take (widthOf c) (valueText c r) (value-clean c r);
+      clean = clean-take (widthOf c) (valueText c r) (value-clean 0 c r refl);
     }
 
 -- the line of the values' rows is the values' line

@@ -1,14 +1,15 @@
--- The values that a line shows: how long they are, and that no character 0 is in them. Assumes nothing.
-use mathlib.Core.Path.{_≡_, refl}
-use mathlib.Core.Bool.{Bool, true, false, cond, _&&_}
+-- The values that a line shows: how long they are, and which characters are in them. Assumes nothing.
+use mathlib.Core.Path.{_≡_, refl, sym, ap, _∙_}
+use mathlib.Core.Bool.{Bool, true, false, cond, _&&_, _||_, true≢false, and-eq-true-iff}
 use mathlib.Core.List.{List, [], _∷_, _++_}
-use Prim.Native.Nat.{ℕ, suc, _+_, _-_, _/_, _≤_}
+use Prim.Native.Nat.{ℕ, _-_, _/_, _≤_}
 use native.Mathlib.Numerals.{add-one}
 use native.Mathlib.Omega.{arith}
 use borrow.Author.Tests.{ne-eqb}
 use lib.Dec.{eqb, ltb}
 use lib.ListN.{length, length-append}
-use Rattle.buffer.specs.Byte.{untilOf, digit, digits2, digits3}
+use Rattle.buffer.specs.Byte.{within, every, untilOf, digit, digits2, digits3}
+use Rattle.buffer.proofs.Laws.{within-in}
 use Rattle.buffer.proofs.Rules.{each}
 use Rattle.decimal.specs.declared.Number.{Number}
 use Rattle.decimal_text.specs.Written.{signText, trimmed, pointed, digits5, exponentText, writtenOf, wholeText, twoDecimals}
@@ -81,34 +82,35 @@ pub value-some : (c : ℕ) (r : Readings) → 1 ≤ length (valueText c r)
 unfolding errorBytes
 value-some c r = value-each (λ (s : List ℕ). 1 ≤ length s) pressure-some temperature-some (omega arith) c r
 
--- ---- no character 0
+-- ---- characters
 
--- no character 0 stands in a text: as many stand before the first as it has
+-- what values are made of: `-`, `.` and digits; capital letters and `e`
+unfoldable pub shown : ℕ → Bool
+shown x = within 45 57 x || within 65 101 x
+
+-- nothing else stands in a text
 abbrev Clean : List ℕ → Type 0
-Clean s = untilOf 0 s ≡ length s
+Clean s = every shown s ≡ true
 
 none : Clean []
-unfolding untilOf
+unfolding every
 none = refl
 
-clean-put : (x : ℕ) (s : List ℕ) → eqb x 0 ≡ false → Clean s → Clean (x ∷ s)
-unfolding untilOf
-clean-put x s e h = rw (e, h) (add-one (length s))
+clean-put : (x : ℕ) (s : List ℕ) → shown x ≡ true → Clean s → Clean (x ∷ s)
+unfolding every
+clean-put x s e h = rw (e, h)
 
-clean-tail : (x : ℕ) (s : List ℕ) → Clean (x ∷ s) → (eqb x 0 ≡ false) × Clean s
-unfolding untilOf
-clean-tail x s h = go (eqb x 0) h
-  where
-    go : (b : Bool) → cond b 0 (untilOf 0 s + 1) ≡ suc (length s) → (b ≡ false) × Clean s
-    go true h = absurd (omega arith)
-    go false h = (refl, omega arith)
+clean-tail : (x : ℕ) (s : List ℕ) → Clean (x ∷ s) → (shown x ≡ true) × Clean s
+unfolding every
+clean-tail x s h = and-eq-true-iff (shown x) (every shown s) .0 h
 
 clean-append : (s t : List ℕ) → Clean s → Clean t → Clean (s ++ t)
 clean-append [] t h k = k
 clean-append (x ∷ s) t h k = let w = clean-tail x s h in clean-put x (s ++ t) (w .0) (clean-append s t (w .1) k)
 
 clean-digit : (n : ℕ) (s : List ℕ) → Clean s → Clean (digit n ∷ s)
-clean-digit n s h = clean-put (digit n) s (ne-eqb (digit n) 0 (λ (z : digit n ≡ 0). omega arith)) h
+unfolding shown
+clean-digit n s h = clean-put (digit n) s (rw (within-in 45 57 (digit n) (omega arith) (omega arith))) h
 
 clean2 : (n : ℕ) → Clean (digits2 n)
 clean2 n = clean-digit (n / 10) (digit n ∷ []) (clean-digit n [] none)
@@ -129,17 +131,17 @@ clean-trimmed (x ∷ s) h = let w = clean-tail x s h in go (eqb x 48 && eqb (len
     go false k = k
 
 clean-pointed : (s : List ℕ) → Clean s → Clean (pointed s)
-unfolding pointed
+unfolding pointed shown within
 clean-pointed [] h = h
 clean-pointed (x ∷ s) h = clean-put 46 (x ∷ s) refl h
 
 clean-sign : (b : Bool) → Clean (signText b)
-unfolding signText untilOf
+unfolding signText every shown within
 clean-sign true = refl
 clean-sign false = refl
 
 clean-exponent : (p : ℕ) → Clean (exponentText p)
-unfolding exponentText
+unfolding exponentText shown within
 clean-exponent p = go (ltb p 9)
   where
     go : (b : Bool) → Clean (cond b (45 ∷ digit (9 - p) ∷ []) (digit (p - 9) ∷ []))
@@ -147,7 +149,7 @@ clean-exponent p = go (ltb p 9)
     go false = clean-digit (p - 9) [] none
 
 written-clean : (n : Number) → Clean (writtenOf n)
-unfolding writtenOf
+unfolding writtenOf shown within
 written-clean n =
     each Clean _ _ _ (λ _. one)
     (λ _. clean-append _ (exponentText (n .place))
@@ -173,7 +175,7 @@ clean-signs true negative = none
 clean-signs false negative = clean-sign negative
 
 two-clean : (negative : Bool) (h : ℕ) → Clean (twoDecimals negative h)
-unfolding twoDecimals
+unfolding twoDecimals shown within
 two-clean negative h =
     clean-append _ (digits2 h)
     (clean-append _ (46 ∷ [])
@@ -182,18 +184,29 @@ two-clean negative h =
     (clean2 h)
 
 pressure-clean : (p : Pressure) → Clean (pressureText p)
-unfolding pressureText errorBytes untilOf
+unfolding pressureText errorBytes every shown within
 pressure-clean (Measured n) = written-clean n
 pressure-clean Under = refl
 pressure-clean Over = refl
 pressure-clean Faulty = refl
 
 temperature-clean : (t : Temperature) → Clean (temperatureText t)
-unfolding temperatureText errorBytes untilOf
+unfolding temperatureText errorBytes every shown within
 temperature-clean (Degrees negative h) = two-clean negative h
 temperature-clean Failed = refl
 
--- no character 0 stands in a value
-pub value-clean : (c : ℕ) (r : Readings) → untilOf 0 (valueText c r) ≡ length (valueText c r)
-unfolding errorBytes untilOf
-value-clean c r = value-each Clean pressure-clean temperature-clean refl c r
+value-shown : (c : ℕ) (r : Readings) → Clean (valueText c r)
+unfolding errorBytes every shown within
+value-shown c r = value-each Clean pressure-clean temperature-clean refl c r
+
+-- a character that values are not made of does not stand in a text of them: as many stand before the first as the text has
+until-clean : (b : ℕ) (s : List ℕ) → shown b ≡ false → Clean s → untilOf b s ≡ length s
+unfolding untilOf
+until-clean b [] e h = refl
+until-clean b (x ∷ s) e h =
+    let w = clean-tail x s h in
+    rw (ne-eqb x b (λ (z : x ≡ b). true≢false (sym (w .0) ∙ ap shown z ∙ e)), until-clean b s e (w .1)) (add-one (length s))
+
+-- no value has it
+pub value-clean : (b c : ℕ) (r : Readings) → shown b ≡ false → untilOf b (valueText c r) ≡ length (valueText c r)
+value-clean b c r e = until-clean b (valueText c r) e (value-shown c r)

@@ -1,59 +1,72 @@
 -- The claim holds of every sequence of calls from factory settings. Assumes nothing.
-use mathlib.Core.Path.{_≡_, refl, ap, subst, _∙_}
+use mathlib.Core.Path.{_≡_, refl, sym, ap, subst, _∙_}
 use mathlib.Core.Bool.{Bool, true, false, cond, not, _&&_}
 use mathlib.Core.List.{List}
 use mathlib.Core.Option.{none, some}
 use Prim.Native.Nat.{ℕ, _≤_}
-use native.Mathlib.Omega.{arith}
 use lib.Dec.{eqb}
-use lib.ListN.{length, length-map}
+use lib.ListN.{length, take}
 use Rattle.buffer.specs.First.{pick}
 use Rattle.buffer.specs.Byte.{at, within}
 use Rattle.buffer.specs.Answer.{Answer, Sent}
 use Rattle.buffer.specs.declared.Written.{Written}
-use Rattle.frames.specs.Frame.{dataFrom, headV2}
-use Rattle.sources.specs.Source.{mostEntries}
+use Rattle.frames.specs.Frame.{dataFrom}
 use Rattle.settings.specs.Limits.{longest-is}
-use Rattle.settings.specs.Settings.{Held, held, factory}
+use Rattle.settings.specs.Settings.{held, factory}
 use Rattle.settings.specs.declared.Key.{Key}
 use Rattle.readings.specs.Bench.{benchOf, benchNumber}
-use Rattle.readings.specs.declared.Readings.{Readings}
 use Rattle.readings.specs.declared.Bench.{Bench}
 use Rattle.readings.specs.declared.Benched.{Benched}
 use Rattle.readings.specs.declared.Benched.the-variants as bench
 use Rattle.readings.specs.Place.{Place, codeOf, readingAt}
 use Rattle.readings.specs.There.{names}
 use Rattle.readings_facts.specs.Sound.{Machine}
-use Rattle.requests.specs.AskV2.{askList}
-use Rattle.line.specs.Line.{valuesOf, lineAnswer}
+use Rattle.line.specs.Line.{lineAnswer}
 use Rattle.gauge_rules.specs.State.{State, stateOf}
 use Rattle.gauge_rules.specs.declared.Gauge.{Gauge}
 use Rattle.gauge_table.specs.Asked.{isV1, askedV2, askedV1}
 use Rattle.gauge_table.specs.Table.{numberOf}
-use Rattle.gauge_table.specs.DecidedV2.{by}
+use Rattle.gauge_table.specs.DecidedV2.{by, decidedV2}
+use Rattle.gauge_table.specs.Numbers.{number-v2}
 use Rattle.gauge_table.specs.After.{answerOf, asksUnlock, afterwards, nextOf, benched}
-use Rattle.gauge_facts.specs.Kept.{SoundState, fresh-sound, next-sound, bench-sound, lower-below}
+use Rattle.gauge_facts.specs.Kept.{SoundState, fresh-sound, next-sound, bench-sound, lower-below, decided}
 use Rattle.gauge_facts.specs.Refused.{readings-stay}
+use Rattle.gauge_facts.specs.Lemmas.Rows.{past-row}
 use Rattle.gauge_facts.specs.Lengths.{within-lent}
 use Rattle.gauge_facts.specs.Line.{line-fits, line-within-lent}
 use Rattle.history.specs.Latest.{orElse, latest, follows}
 use Rattle.sequence_facts.specs.Model.{step, modelOf}
-use Rattle.sequence_facts.specs.Sequence.{asked, set, lined, History, model, Trace, begin, ask, tell, show, AllFixed, Claim, holding, writes, forKey, saysSetting, sameCode, Origin, started, handed, saysReading, Stands, isUnlock, saysUnlock}
-use Rattle.sequence_facts.specs.Lemmas.Settings.{v2-says, v1-says}
+use Rattle.sequence_facts.specs.Writes.{holding, writes}
+use Rattle.sequence_facts.specs.Shown.{Listed, shownLine, valuesIn}
+use Rattle.sequence_facts.specs.Sequence.{asked, set, lined, History, model, Trace, begin, ask, tell, show, AllFixed, LineOf, Claim, saysSetting, sameCode, Origin, started, handed, saysReading, Stands, isUnlock, saysUnlock}
+use Rattle.sequence_facts.specs.Lemmas.Requests.{v2-says, v1-says}
 use Rattle.sequence_facts.specs.Lemmas.Readings.{accepted-stands}
 use Rattle.sequence_facts.specs.Lemmas.Unlock.{unlock-is}
+use Rattle.sequence_facts.specs.Lemmas.Line.{sent-bytes, listed-places, line-shown, line-few}
 
 -- ---- one request, on what the model holds
 
 module _ (m : State) (lent : ℕ) (s : List ℕ) where
-  -- each setting afterwards is what the request says of it, or what it was
-  setting-next : (key : Key) → holding key (nextOf m lent s .settings) ≡ orElse (pick (eqb (numberOf m lent s) 0) (forKey key (writes s)) none) (holding key (m .settings))
-  unfolding nextOf afterwards pick orElse writes
+  -- an accepted V2 request is decided by the rules of V2
+  decided-v2 : isV1 s ≡ false → eqb (numberOf m lent s) 0 ≡ true → eqb (decidedV2 m (askedV2 s)) 0 ≡ true
+  unfolding numberOf
+  decided-v2 l e =
+      let a = past-row _ 1 _ refl e in
+      let b = past-row _ 2 _ refl (a .1) in
+      let c = past-row _ 3 _ refl (b .1) in
+      let d = past-row _ 4 _ refl (c .1) in
+      let f = past-row _ 5 _ refl (d .1) in
+      let w = rw l at (past-row _ 6 _ refl (f .1) .0) in
+      rw (number-v2 s m lent (a .0) (record { shape = b .0; sum = c .0; address = d .0 }) (f .0) l w) at e
+
+  -- each setting afterwards is what the request's bytes say of it, or what it was
+  setting-next : (key : Key) → holding key (nextOf m lent s .settings) ≡ orElse (pick (eqb (numberOf m lent s) 0) (writes key s) none) (holding key (m .settings))
+  unfolding nextOf afterwards pick orElse
   setting-next key =
       by (eqb (numberOf m lent s) 0)
       (λ e. by (isV1 s)
-      (λ l. rw (e, l) (v1-says key (m .settings) (askedV1 s)))
-      (λ l. rw (e, l) (v2-says key (m .settings) (askedV2 s) (askList (headV2 s) (dataFrom 8 s)))))
+      (λ l. rw (e, l) (v1-says m key (m .settings) s l (rw (decided m lent s l e) at e)))
+      (λ l. rw (e, l) (v2-says m key (m .settings) s (decided-v2 l e))))
       (λ e. rw e)
 
   unlock-next : nextOf m lent s .unlocked ≡ orElse (pick (isV1 s && not (within 1 5 (numberOf m lent s))) (some (eqb (numberOf m lent s) 0 && isUnlock s)) none) (m .unlocked)
@@ -156,16 +169,32 @@ sofar (show {h} {g} {before} {after} {w} t a) =
       sound = c .sound;
     }
 
--- the line of a sound state
-few-values : (h : Held) (r : Readings) → length (h .list) ≤ mostEntries → length (valuesOf (h .list) r) ≤ 8
-unfolding valuesOf
-few-values h r k = rw length-map (omega arith)
+-- the line of a sound gauge shows what stands at the sources listed
+module _ (g : Gauge) (f : SoundState (stateOf g)) where
+  shows-whole : (places : List Place) × Listed (held (g .settings) .list) places
+      × ((before after : List ℕ) (w : Written) → LineOf g before after w → g .settings .streaming ≡ true → 96 ≤ length before
+      → (w .number ≡ 0) × (take (w .len) after ≡ shownLine (g .readings) places))
+  shows-whole =
+      let p = listed-places (held (g .settings) .list) (f .settings .list) in (
+        p .0,
+        p .1,
+        λ before after w s on room.
+            let e = line-shown (g .readings) (f .readings) (held (g .settings)) (length before) (p .0) (p .1) on room in
+            (s .number ∙ ap (λ (a : Answer). a .number) e, sent-bytes s ∙ ap (λ (a : Answer). a .reply) e),
+      )
+
+  few-values : (before after : List ℕ) (w : Written) → LineOf g before after w → valuesIn (take (w .len) after) ≤ 8
+  few-values before after w s = rw (sent-bytes s) (line-few (length before) (held (g .settings)) (g .readings) (f .settings .list) (f .readings))
+
+  few-bytes : (before after : List ℕ) (w : Written) → LineOf g before after w → (length (take (w .len) after) ≡ w .len) × (w .len ≤ 96)
+  few-bytes before after w s =
+      let k = rw longest-is at (line-fits (length before) (held (g .settings)) (g .readings) (f .settings .list .few)) in
+      (rw (sent-bytes s) (sym (s .len)), rw (s .len) k)
 
 -- THE THEOREM
 pub claimed : {h : History} {g : Gauge} → Trace h g → Claim h g
 claimed {h} {g} t =
     let c = sofar t in
-    let few = subst (λ (m : State). length (m .settings .list) ≤ mostEntries) (c .holds) (c .sound .settings .list .few) in
     record {
       answers = c .answers;
       holds = c .holds;
@@ -175,6 +204,7 @@ claimed {h} {g} t =
       sound = c .sound;
       below = λ low high e. lower-below (stateOf g) low high (c .sound) e;
       line-is = λ before after w f. sent-too (ap (λ (m : State). lineAnswer (length before) (m .settings) (m .readings)) (c .holds)) f;
-      line-values = few-values (model h .settings) (model h .readings) few;
-      line-bytes = λ room. rw longest-is at (line-fits room (model h .settings) (model h .readings) few);
+      line-shows = shows-whole g (c .sound);
+      line-values = few-values g (c .sound);
+      line-bytes = few-bytes g (c .sound);
     }

@@ -1,24 +1,21 @@
 -- Any sequence of calls from factory settings, as it is seen from outside, and the one claim about it. Assumes nothing.
 use mathlib.Core.Path.{_≡_}
-use mathlib.Core.Bool.{Bool, true, false, cond, not, _&&_}
+use mathlib.Core.Bool.{Bool, true, false, not, _&&_}
 use mathlib.Core.List.{List, [], _∷_, map}
 use mathlib.Core.Option.{Option, none, some}
 use Prim.Native.Nat.{ℕ, _≤_}
 use lib.Dec.{eqb}
-use lib.ListN.{length}
+use lib.ListN.{length, take}
 use Rattle.buffer.specs.First.{pick}
 use Rattle.buffer.specs.Byte.{at, within, sameText}
 use Rattle.buffer.specs.Answer.{Sent}
 use Rattle.buffer.specs.declared.Written.{Written}
-use Rattle.frames.specs.Frame.{dataFrom, headV2}
+use Rattle.frames.specs.Frame.{dataFrom}
 use Rattle.decimal.specs.Number.{belowOf}
 use Rattle.decimal.specs.declared.Number.{Number}
-use Rattle.settings.specs.Settings.{Held, held, keyOf, factory, factoryOf}
+use Rattle.settings.specs.Settings.{held, factory}
 use Rattle.settings.specs.declared.Transition.the-variants.{Between}
 use Rattle.settings.specs.declared.Key.{Key}
-use Rattle.settings.specs.declared.Key.the-variants.{DA, DU, C1, CM, CC, FC, ST, SM}
-use Rattle.settings.specs.declared.Setting.{Setting}
-use Rattle.settings.specs.declared.Setting.the-variants.{Address, PressureIn, Factor, Control, Cathode, Filament, Switch, Stream}
 use Rattle.readings.specs.Reading.{start}
 use Rattle.readings.specs.Bench.{benchOf, benchNumber}
 use Rattle.readings.specs.declared.Reading.{Reading}
@@ -27,18 +24,10 @@ use Rattle.readings.specs.Place.{Place, codeOf, readingAt}
 use Rattle.readings.specs.There.{names}
 use Rattle.readings_facts.specs.Handed.{Handed}
 use Rattle.readings_facts.specs.Sound.{Machine}
-use Rattle.requests.specs.AskV2.{askList}
-use Rattle.requests.specs.declared.Command.the-variants.{MV, T2, FN, FS, Of}
-use Rattle.requests.specs.declared.RequestV2.the-variants.{Read, Restore, Set}
-use Rattle.requests.specs.declared.RequestV1.the-variants.{Measure, ReadFactor, Unlock, SetFactor, ReadUnit, SetUnit}
-use Rattle.requests.specs.declared.AskV2.{AskV2}
-use Rattle.requests.specs.declared.AskV2.the-variants.{For, Refused}
-use Rattle.requests.specs.declared.AskV1.{AskV1}
-use Rattle.requests.specs.declared.AskV1.the-variants.{Asks, Denied}
-use Rattle.line.specs.Line.{valuesOf, lineAnswer}
+use Rattle.line.specs.Line.{lineAnswer}
 use Rattle.gauge_rules.specs.State.{State, stateOf, fresh}
 use Rattle.gauge_rules.specs.declared.Gauge.{Gauge}
-use Rattle.gauge_table.specs.Asked.{isV1, askedV2, askedV1}
+use Rattle.gauge_table.specs.Asked.{isV1}
 use Rattle.gauge_table.specs.After.{answerOf}
 use Rattle.text_gauge.specs.Answer.{Answers, Benches}
 use Rattle.text_gauge.specs.declared.Answered.{Answered}
@@ -46,6 +35,8 @@ use Rattle.text_gauge.specs.declared.BenchAnswer.{BenchAnswer}
 use Rattle.gauge_facts.specs.Kept.{SoundState}
 use Rattle.history.specs.Latest.{Each, latest}
 use Rattle.sequence_facts.specs.Model.{Fed, request, bench, line, modelOf}
+use Rattle.sequence_facts.specs.Writes.{Value, holding, writes}
+use Rattle.sequence_facts.specs.Shown.{Listed, shownLine, valuesIn}
 
 -- ---- calls
 
@@ -97,72 +88,9 @@ AllFixed h = Each (λ earlier e. Fixed (model earlier) e) h
 
 -- ---- what the calls themselves say, without the model
 
--- what a setting holds: its value, and SM's list beside it
-abbrev pub Value : Type 0
-Value = Setting × List ℕ
-
-unfoldable pub holding : Key → Held → Value
-holding DA h = (Address (h .address), [])
-holding DU h = (PressureIn (h .unit), [])
-holding C1 h = (Factor (h .factor), [])
-holding CM h = (Control (h .control), [])
-holding CC h = (Cathode (h .cathode), [])
-holding FC h = (Filament (h .filament), [])
-holding ST h = (Switch (h .transition), [])
-holding SM h = (Stream (h .streaming), h .list)
-
--- what a request wrote or restored, if it was accepted
-unfoldable pub writesV2 : AskV2 → List ℕ → Option Value
-writesV2 (For (Read c)) list = none
-writesV2 (For (Restore MV)) list = none
-writesV2 (For (Restore T2)) list = none
-writesV2 (For (Restore FN)) list = none
-writesV2 (For (Restore FS)) list = none
-writesV2 (For (Restore (Of key))) list = some (factoryOf key, [])
-writesV2 (For (Set x)) list = some (x, list)
-writesV2 (Refused k) list = none
-
-unfoldable pub writesV1 : AskV1 → Option Value
-writesV1 (Asks Measure) = none
-writesV1 (Asks ReadFactor) = none
-writesV1 (Asks Unlock) = none
-writesV1 (Asks (SetFactor n)) = some (Factor n, [])
-writesV1 (Asks ReadUnit) = none
-writesV1 (Asks (SetUnit u)) = some (PressureIn u, [])
-writesV1 (Denied k) = none
-
-unfoldable pub writes : List ℕ → Option Value
-writes s = cond (isV1 s) (writesV1 (askedV1 s)) (writesV2 (askedV2 s) (askList (headV2 s) (dataFrom 8 s)))
-
--- the settings by number, to compare their names
-unfoldable pub keyCode : Key → ℕ
-keyCode DA = 0
-keyCode DU = 1
-keyCode C1 = 2
-keyCode CM = 3
-keyCode CC = 4
-keyCode FC = 5
-keyCode ST = 6
-keyCode SM = 7
-
--- the list counts for SM only
-unfoldable pub besideOf : Setting → List ℕ → List ℕ
-besideOf (Address v) list = []
-besideOf (PressureIn v) list = []
-besideOf (Factor v) list = []
-besideOf (Control v) list = []
-besideOf (Cathode v) list = []
-besideOf (Filament v) list = []
-besideOf (Switch v) list = []
-besideOf (Stream v) list = list
-
-unfoldable pub forKey : Key → Option Value → Option Value
-forKey key none = none
-forKey key (some v) = pick (eqb (keyCode key) (keyCode (keyOf (v .0)))) (some (v .0, besideOf (v .0) (v .1))) none
-
 -- what a call, by its bytes and its answered number, says of a setting
 unfoldable pub saysSetting : Key → Exchange → Option Value
-saysSetting key (asked s before number len after) = pick (eqb number 0) (forKey key (writes s)) none
+saysSetting key (asked s before number len after) = pick (eqb number 0) (writes key s) none
 saysSetting key (set b number) = none
 saysSetting key (lined before number len after) = none
 
@@ -201,6 +129,10 @@ saysUnlock (lined before number len after) = none
 
 -- ---- the claim
 
+-- a gauge that was asked for the line gave this answer
+abbrev pub LineOf : Gauge → List ℕ → List ℕ → Written → Type 0
+LineOf g before after w = Sent before (lineAnswer (length before) (held (g .settings)) (g .readings)) after w
+
 pub record Claim (h : History) (g : Gauge) : Type 0 where
   -- "For every such sequence, each answer number and reply, with its length, is what document 01 fixes from the gauge's book"
   pub answers : AllFixed h
@@ -216,8 +148,11 @@ pub record Claim (h : History) (g : Gauge) : Type 0 where
   pub sound : SoundState (stateOf g)
   pub below : (low high : Number) → g .settings .transition ≡ Between low high → belowOf low high ≡ true
   -- "A text gauge then asked for the stream line, with any memory lent, answers and writes exactly what document 01 fixes from the book"
-  pub line-is : (before after : List ℕ) (w : Written) → Sent before (lineAnswer (length before) (held (g .settings)) (g .readings)) after w
-      → Sent before (lineAnswer (length before) (model h .settings) (model h .readings)) after w
-  -- "the line never has more than eight values or 96 bytes"
-  pub line-values : length (valuesOf (model h .settings .list) (model h .readings)) ≤ 8
-  pub line-bytes : (room : ℕ) → length (lineAnswer room (model h .settings) (model h .readings) .reply) ≤ 96
+  pub line-is : (before after : List ℕ) (w : Written) → LineOf g before after w → Sent before (lineAnswer (length before) (model h .settings) (model h .readings)) after w
+  -- "The line is source 0, then the list in order, joined by `;`": each place shows the reading that stands at its source, whole
+  pub line-shows : (places : List Place) × Listed (held (g .settings) .list) places
+      × ((before after : List ℕ) (w : Written) → LineOf g before after w → g .settings .streaming ≡ true → 96 ≤ length before
+      → (w .number ≡ 0) × (take (w .len) after ≡ shownLine (g .readings) places))
+  -- "the line never has more than eight values or 96 bytes", whatever memory is lent: counted on the bytes that were written
+  pub line-values : (before after : List ℕ) (w : Written) → LineOf g before after w → valuesIn (take (w .len) after) ≤ 8
+  pub line-bytes : (before after : List ℕ) (w : Written) → LineOf g before after w → (length (take (w .len) after) ≡ w .len) × (w .len ≤ 96)

@@ -53,6 +53,7 @@ use Rattle.gauge_facts.specs.Kept.{SoundState, fresh-sound, next-sound, bench-s
 use Rattle.history.specs.Latest.{Each}
 use Rattle.sequence_facts.specs.Model.{step, modelOf}
 use Rattle.sequence_facts.specs.Sequence.{Exchange, asked, set, lined, History, model, Trace, begin, ask, tell, show, AllFixed}
+use Rattle.sequence_facts.specs.Shown.{countOf, valuesIn}
 use Rattle.sequence_facts.specs.Claimed.{claimed}
 
 -- a gauge that holds what the model holds
@@ -191,10 +192,10 @@ memoryOf (lined before number len after ∷ h) = after
 pub record Reached (cs : List Call) : Type 0 where
   pub trace : Trace (play cs) (gaugeOf (model (play cs)))
   pub calls-are : map callOf (play cs) ≡ cs
-  pub values : length (valuesOf (model (play cs) .settings .list) (model (play cs) .readings)) ≡ 8
+  pub values : valuesIn (memoryOf (play cs)) ≡ 8
   pub line-is : memoryOf (play cs) ≡ bytes "1.23456e-9;-1.23456e-9;-1.23456e-9;-1.23456e-9;-1.23456e-9;-1.23456e-9;-1.23456e-9;-1.23456e-9H" ++ (13 ∷ [])
   pub line-bytes : length (memoryOf (play cs)) ≡ 96
 
 pub reached : Reached longest
-unfolding play modelOf step over bytes within every sameText untilOf numeralFrom pick sumOf checksumOf endOf closed isLetter lengthFits misshapen wrongSum wrongAddress wrongLength headV1 headV2 frameV1 frameV2 errorOf errorBytes errorHeadV2 errorHeadV1 errorLetterV1 errorDataV1 numberOf answerOf scanOf unsignedOf fractionOf exponentOf powerOf leading startsWith normalOf sizeOf units plus minus belowOf countedOf hundredthsOf writtenOf signText trimmed pointed exponentText wholeText twoDecimals sourceText isSource findSource sourceOf listText onto parts sourceTexts entriesOf opens entriesNumber entriesList factoryOf putOf restoreOf unitText transitionText streamText readText widthOf widest longestLine putReading pressureText temperatureText valueText isFaulty isFailed sixOf roundedText measureText takes pressureAt temperatureAt pressureOf degreesOf temperatureOf benchOf addressData unitData factorIn factorOf digitData digitOf limitedOf directOf betweenOf endsOf transitionOf transitionData idleList knownMode streamOf streamData verdictOf ifSet listIn commandOf findCommand commandText isAccess canWrite canRestore lacksAccess setOf writeOf askKnown askNamed askV2 writeList namedList askList sixDigits bareOf digitOne oneOf unitAt askV1 filamentOf changesCathode readsFaulty sentText textV2 answerCode enterV2 unitCode textV1 repeats unlocks enterV1 unknownCommand lacks dataNumber badFormV2 outsideV2 endsWrong breaksRule asksFaulty unknownLetter badFormV1 lockedWrite outsideV1 measuresFaulty tableNumber acceptedV2 acceptedV1 replyOf tableAnswer enteredV2 enteredV1 asksUnlock afterwards nextOf benched valueOf valuesOf tailOf joined lineAnswer
+unfolding play modelOf step over bytes within every sameText untilOf numeralFrom pick sumOf checksumOf endOf closed isLetter lengthFits misshapen wrongSum wrongAddress wrongLength headV1 headV2 frameV1 frameV2 errorOf errorBytes errorHeadV2 errorHeadV1 errorLetterV1 errorDataV1 numberOf answerOf scanOf unsignedOf fractionOf exponentOf powerOf leading startsWith normalOf sizeOf units plus minus belowOf countedOf hundredthsOf writtenOf signText trimmed pointed exponentText wholeText twoDecimals sourceText isSource findSource sourceOf listText onto parts sourceTexts entriesOf opens entriesNumber entriesList factoryOf putOf restoreOf unitText transitionText streamText readText widthOf widest longestLine putReading pressureText temperatureText valueText isFaulty isFailed sixOf roundedText measureText takes pressureAt temperatureAt pressureOf degreesOf temperatureOf benchOf addressData unitData factorIn factorOf digitData digitOf limitedOf directOf betweenOf endsOf transitionOf transitionData idleList knownMode streamOf streamData verdictOf ifSet listIn commandOf findCommand commandText isAccess canWrite canRestore lacksAccess setOf writeOf askKnown askNamed askV2 writeList namedList askList sixDigits bareOf digitOne oneOf unitAt askV1 filamentOf changesCathode readsFaulty sentText textV2 answerCode enterV2 unitCode textV1 repeats unlocks enterV1 unknownCommand lacks dataNumber badFormV2 outsideV2 endsWrong breaksRule asksFaulty unknownLetter badFormV1 lockedWrite outsideV1 measuresFaulty tableNumber acceptedV2 acceptedV1 replyOf tableAnswer enteredV2 enteredV1 asksUnlock afterwards nextOf benched valueOf valuesOf tailOf joined lineAnswer countOf valuesIn
 reached = record { trace = played longest (tt, (tt, (omega arith, (omega arith, tt)))); calls-are = plays longest; values = refl; line-is = refl; line-bytes = refl }

@@ -42,11 +42,11 @@ texts-of (c ∷ cs) = parts-text (sourceText c) cs (source-lack c) ∙ rw (texts
 
 -- ---- the known sources, one by one
 
-abbrev Each : (ℕ → Type 0) → List ℕ → Type 0
+abbrev pub Each : (ℕ → Type 0) → List ℕ → Type 0
 Each P [] = Unit {0}
 Each P (c ∷ cs) = P c × Each P cs
 
-of-each : (P : ℕ → Type 0) (codes : List ℕ) (c : ℕ) → Each P codes → among codes c ≡ true → P c
+pub of-each : (P : ℕ → Type 0) (codes : List ℕ) (c : ℕ) → Each P codes → among codes c ≡ true → P c
 unfolding among
 of-each P [] c h e = absurd (let z : _≡_ {A = ℕ} 0 1 = cc in omega arith)
 of-each P (d ∷ codes) c h e = go (eqb c d) refl e (of-each P codes c (h .1))

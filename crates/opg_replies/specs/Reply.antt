@@ -12,14 +12,9 @@ use Rattle.opg_commands.specs.Limits.{unitLow, unitHigh}
 use Rattle.opg_commands.specs.Request.{wordAt, requestPid, replyCmd, replyCount}
 use Rattle.opg_commands.specs.declared.Request.{Request}
 use Rattle.opg_commands.specs.declared.Request.the-variants.{ReadPressure, ReadUnit, WriteUnit, DetectionOff, DetectionOn}
-use Rattle.opg_replies.specs.declared.Reply.{Reply}
 use Rattle.opg_replies.specs.declared.Reply.the-variants.{Pressure, Unit, Done, Error}
 use Rattle.opg_replies.specs.declared.Reading.{Reading}
 use Rattle.opg_replies.specs.declared.Reading.the-variants.{Refused, Read}
-use Rattle.opg_replies.specs.declared.Measured.{Measured}
-use Rattle.opg_replies.specs.declared.Measured.the-variants as M
-use Rattle.opg_replies.specs.declared.UnitRead.{UnitRead}
-use Rattle.opg_replies.specs.declared.UnitRead.the-variants as U
 
 -- "An error reply has PID 0xFFFF"
 unfoldable pub isError : List ℕ → Bool
@@ -68,16 +63,3 @@ readingShown (Read (Pressure p)) = 20 ∷ 1 ∷ toBits binary32 p ∷ []
 readingShown (Read (Unit u)) = 20 ∷ 2 ∷ u ∷ []
 readingShown (Read Done) = 20 ∷ 3 ∷ []
 readingShown (Read (Error e)) = 20 ∷ 4 ∷ e ∷ []
-
--- the expected case of a decoded reply; any other is none to the request: 26
-unfoldable pub measuredOf : Reply → Measured
-measuredOf (Pressure p) = M.Value p
-measuredOf (Unit u) = M.Refused 26
-measuredOf Done = M.Refused 26
-measuredOf (Error e) = M.Refused 26
-
-unfoldable pub unitReadOf : Reply → UnitRead
-unitReadOf (Pressure p) = U.Refused 26
-unitReadOf (Unit u) = U.Value u
-unitReadOf Done = U.Refused 26
-unitReadOf (Error e) = U.Refused 26

@@ -1,7 +1,7 @@
 // Replies of an OPG as the master reads them (document 01, "The master's side").
 ghost use mathlib.Core.Path.{_≡_};
 ghost use Rattle.opg_commands.specs.Request.{wordAt};
-ghost use Rattle.opg_replies.specs.Reply.{isError, otherReply, neededOf, wrongCount, valueOf, readingOf, measuredOf, unitReadOf};
+ghost use Rattle.opg_replies.specs.Reply.{isError, otherReply, neededOf, wrongCount, valueOf, readingOf};
 use opg_commands::Request;
 use opg_commands::Settings;
 
@@ -17,17 +17,6 @@ pub enum Reply {
 pub enum Reading {
     Refused(u8),
     Read(Reply),
-}
-
-// What a master gets who asked for the pressure, and for the unit.
-pub enum Measured {
-    Value(f32),
-    Refused(u8),
-}
-
-pub enum UnitRead {
-    Value(u8),
-    Refused(u8),
 }
 
 fn is_error(s: &[u8]) -> bool
@@ -132,24 +121,4 @@ pub fn read_reply(r: Request, s: &[u8]) -> Reading
         return Reading::Read(Reply::Error(opg_frames::byte_at(s, 10)));
     }
     read_value(r, s)
-}
-
-// The pressure taken out of a decoded reply: a reply of another kind never yields one.
-pub fn pressure_of(reply: Reply) -> Measured
-    ensures { λ a. ⌜ a ≡ measuredOf reply ⌝ }
-{
-    let Reply::Pressure(p) = reply else {
-        return Measured::Refused(26);
-    };
-    Measured::Value(p)
-}
-
-// The unit taken out of a decoded reply.
-pub fn unit_of(reply: Reply) -> UnitRead
-    ensures { λ a. ⌜ a ≡ unitReadOf reply ⌝ }
-{
-    let Reply::Unit(u) = reply else {
-        return UnitRead::Refused(26);
-    };
-    UnitRead::Value(u)
 }

@@ -16,16 +16,9 @@ use Rattle.requests.specs.AskV1.{sixDigits}
 use Rattle.requests.specs.declared.RequestV1.{RequestV1}
 use Rattle.requests.specs.declared.RequestV1.the-variants.{Measure, ReadFactor, Unlock, SetFactor, ReadUnit, SetUnit}
 use Rattle.request_texts.specs.RequestText.{unitCode, letterV1, dataV1}
-use Rattle.replies_v1.specs.declared.ReplyV1.{ReplyV1}
 use Rattle.replies_v1.specs.declared.ReplyV1.the-variants.{Reads, BelowRange, AboveRange, Factor, Unit, Done, Error}
 use Rattle.replies_v1.specs.declared.ReadV1.{ReadV1}
 use Rattle.replies_v1.specs.declared.ReadV1.the-variants.{Read, Refused}
-use Rattle.replies_v1.specs.declared.MeasuredV1.{MeasuredV1}
-use Rattle.replies_v1.specs.declared.MeasuredV1.the-variants as M
-use Rattle.replies_v1.specs.declared.FactorReadV1.{FactorReadV1}
-use Rattle.replies_v1.specs.declared.FactorReadV1.the-variants as F
-use Rattle.replies_v1.specs.declared.UnitReadV1.{UnitReadV1}
-use Rattle.replies_v1.specs.declared.UnitReadV1.the-variants as U
 
 -- ---- the data that answer a request
 
@@ -135,32 +128,3 @@ readShownV1 (Read (Factor n)) = 0 ∷ 4 ∷ n ∷ []
 readShownV1 (Read (Unit u)) = 0 ∷ 5 ∷ unitCode u ∷ []
 readShownV1 (Read Done) = 0 ∷ 6 ∷ []
 readShownV1 (Read (Error e)) = 0 ∷ 7 ∷ errorBytes e
-
--- ---- the expected case of a decoded reply; any other is none to the request: 14
-
-unfoldable pub measuredOf : ReplyV1 → MeasuredV1
-measuredOf (Reads mantissa exponent) = M.Value mantissa exponent
-measuredOf BelowRange = M.Refused 14
-measuredOf AboveRange = M.Refused 14
-measuredOf (Factor n) = M.Refused 14
-measuredOf (Unit u) = M.Refused 14
-measuredOf Done = M.Refused 14
-measuredOf (Error e) = M.Refused 14
-
-unfoldable pub factorReadOf : ReplyV1 → FactorReadV1
-factorReadOf (Reads mantissa exponent) = F.Refused 14
-factorReadOf BelowRange = F.Refused 14
-factorReadOf AboveRange = F.Refused 14
-factorReadOf (Factor n) = F.Value n
-factorReadOf (Unit u) = F.Refused 14
-factorReadOf Done = F.Refused 14
-factorReadOf (Error e) = F.Refused 14
-
-unfoldable pub unitReadOf : ReplyV1 → UnitReadV1
-unitReadOf (Reads mantissa exponent) = U.Refused 14
-unitReadOf BelowRange = U.Refused 14
-unitReadOf AboveRange = U.Refused 14
-unitReadOf (Factor n) = U.Refused 14
-unitReadOf (Unit u) = U.Value u
-unitReadOf Done = U.Refused 14
-unitReadOf (Error e) = U.Refused 14

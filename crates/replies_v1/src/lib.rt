@@ -2,7 +2,7 @@
 ghost use mathlib.Core.Path.{_≡_};
 ghost use Rattle.buffer.specs.Byte.{at};
 ghost use Rattle.frames.specs.Frame.{isLetter};
-ghost use Rattle.replies_v1.specs.ReplyV1.{errorAt, pressureV1, measureV1, factorV1, unitAt, unitV1, echoV1, valueV1, readV1, measuredOf, factorReadOf, unitReadOf};
+ghost use Rattle.replies_v1.specs.ReplyV1.{errorAt, pressureV1, measureV1, factorV1, unitAt, unitV1, echoV1, valueV1, readV1};
 use frame_writer::ErrorText;
 use requests::RequestV1;
 
@@ -20,22 +20,6 @@ pub enum ReplyV1 {
 // Bytes as the reply to a request: a reply, or refused with this number.
 pub enum ReadV1 {
     Read(ReplyV1),
-    Refused(u8),
-}
-
-// What a master gets who asked for the pressure, the factor and the unit.
-pub enum MeasuredV1 {
-    Value(u16, u8),
-    Refused(u8),
-}
-
-pub enum FactorReadV1 {
-    Value(u16),
-    Refused(u8),
-}
-
-pub enum UnitReadV1 {
-    Value(settings::PressureUnit),
     Refused(u8),
 }
 
@@ -192,34 +176,4 @@ pub fn read_reply_v1(address: u16, request: RequestV1, s: &[u8]) -> ReadV1
         frames::Frame::Length(_) => ReadV1::Refused(2),
         frames::Frame::V2(_) => ReadV1::Refused(2),
     }
-}
-
-// The reading taken out of a decoded reply: a reply of another kind never yields one.
-pub fn measured_of(reply: ReplyV1) -> MeasuredV1
-    ensures { λ r. ⌜ r ≡ measuredOf reply ⌝ }
-{
-    let ReplyV1::Reads(mantissa, exponent) = reply else {
-        return MeasuredV1::Refused(14);
-    };
-    MeasuredV1::Value(mantissa, exponent)
-}
-
-// The factor taken out of a decoded reply.
-pub fn factor_of(reply: ReplyV1) -> FactorReadV1
-    ensures { λ r. ⌜ r ≡ factorReadOf reply ⌝ }
-{
-    let ReplyV1::Factor(n) = reply else {
-        return FactorReadV1::Refused(14);
-    };
-    FactorReadV1::Value(n)
-}
-
-// The unit taken out of a decoded reply.
-pub fn unit_of(reply: ReplyV1) -> UnitReadV1
-    ensures { λ r. ⌜ r ≡ unitReadOf reply ⌝ }
-{
-    let ReplyV1::Unit(u) = reply else {
-        return UnitReadV1::Refused(14);
-    };
-    UnitReadV1::Value(u)
 }

@@ -1,3 +1,2 @@
 -- Document 01, "The master's side": values in V2 replies.
 pub mod Value
-pub mod Kind

@@ -1,11 +1,10 @@
-// Values in V2 replies (document 01, "The master's side"): the data of a reply to a read, and the value taken out of a decoded reply.
+// Values in V2 replies (document 01, "The master's side"): the data of a reply to a read.
 ghost use mathlib.Core.Path.{_≡_};
 ghost use mathlib.Core.List.{[]};
 ghost use Rattle.decimal.specs.Form.{parsedNumber};
 ghost use Rattle.sources.specs.Source.{listOf, Counted};
 ghost use Rattle.requests.specs.declared.Command.{Command};
 ghost use Rattle.replies_v2_values.specs.Value.{measuredReply, pressureReply, degreesReply, temperatureReply, filamentReply, statusReply, heldReply, bothEnds, transitionReply, Values};
-ghost use Rattle.replies_v2_values.specs.Kind.{pressureRead, degreesRead, filamentRead, statusRead, settingRead};
 use requests::Command;
 
 // A decoded reply.
@@ -49,8 +48,6 @@ pub fn plain(read: ReadV2) -> AnswerV2
         sources: sources::Sources::NONE,
     }
 }
-
-// ---- the data of reads
 
 // The number of a text that is no number.
 fn refusal_of(p: decimal::Parsed) -> u8
@@ -205,75 +202,4 @@ pub fn read_value(command: Command, s: &[u8]) -> AnswerV2
         Command::FS => plain(status_in(forms::judge_digit(s, readings::Readings::STATUS_MAX))),
         Command::Of(key) => read_setting(key, s),
     }
-}
-
-// ---- the expected case of a decoded reply: a reply of another kind never yields a value
-
-// What a master gets who asked for MV.
-pub enum MeasuredV2 {
-    Value(decimal::Number),
-    Refused(u8),
-}
-
-// For T2.
-pub enum DegreesV2 {
-    Value(bool, u16),
-    Refused(u8),
-}
-
-// For FN or FS.
-pub enum DigitV2 {
-    Value(u8),
-    Refused(u8),
-}
-
-// For a setting.
-pub enum SettingV2 {
-    Value(settings::Setting),
-    Refused(u8),
-}
-
-pub fn pressure_of(reply: ReplyV2) -> MeasuredV2
-    ensures { λ r. ⌜ r ≡ pressureRead reply ⌝ }
-{
-    let ReplyV2::Measured(n) = reply else {
-        return MeasuredV2::Refused(14);
-    };
-    MeasuredV2::Value(n)
-}
-
-pub fn degrees_of(reply: ReplyV2) -> DegreesV2
-    ensures { λ r. ⌜ r ≡ degreesRead reply ⌝ }
-{
-    let ReplyV2::Degrees(negative, size) = reply else {
-        return DegreesV2::Refused(14);
-    };
-    DegreesV2::Value(negative, size)
-}
-
-pub fn filament_of(reply: ReplyV2) -> DigitV2
-    ensures { λ r. ⌜ r ≡ filamentRead reply ⌝ }
-{
-    let ReplyV2::FilamentNumber(d) = reply else {
-        return DigitV2::Refused(14);
-    };
-    DigitV2::Value(d)
-}
-
-pub fn status_of(reply: ReplyV2) -> DigitV2
-    ensures { λ r. ⌜ r ≡ statusRead reply ⌝ }
-{
-    let ReplyV2::StatusNumber(d) = reply else {
-        return DigitV2::Refused(14);
-    };
-    DigitV2::Value(d)
-}
-
-pub fn setting_of(reply: ReplyV2) -> SettingV2
-    ensures { λ r. ⌜ r ≡ settingRead reply ⌝ }
-{
-    let ReplyV2::Holds(x) = reply else {
-        return SettingV2::Refused(14);
-    };
-    SettingV2::Value(x)
 }

@@ -1,0 +1,1 @@
+// Numbers of answers: theorems only, in specs/.

@@ -52,18 +52,18 @@ by-hundredths n = whole (eqb (u % 10 ^ 12) 0) refl
     h : ℕ
     h = u / 10 ^ 12
 
-    small : (t : Bool) → leb 25600 h ≡ t → u % 10 ^ 12 ≡ 0 → leb 100000 h ≡ false → h % 100 ≡ 0 → statusIn (hundredthsOf n) ≡ rowsOf u
+    small : (t : Bool) → leb 25600 h ≡ t → u % 10 ^ 12 ≡ 0 → leb (2 ^ 32) h ≡ false → h % 100 ≡ 0 → statusIn (hundredthsOf n) ≡ rowsOf u
     small true e a b c = rw (eq-eqb (u % 10 ^ 12) 0 a, b, eq-eqb (h % 100) 0 c, e) (sym (isnt-rows u (λ k. omega (arith, leb-true 25600 h e))))
     small false e a b c = rw (eq-eqb (u % 10 ^ 12) 0 a, b, eq-eqb (h % 100) 0 c, e) (sym (is-rows u h a refl c (leb-false 25600 h e)))
 
-    hundred : (t : Bool) → eqb (h % 100) 0 ≡ t → u % 10 ^ 12 ≡ 0 → leb 100000 h ≡ false → statusIn (hundredthsOf n) ≡ rowsOf u
+    hundred : (t : Bool) → eqb (h % 100) 0 ≡ t → u % 10 ^ 12 ≡ 0 → leb (2 ^ 32) h ≡ false → statusIn (hundredthsOf n) ≡ rowsOf u
     hundred true e a b = small (leb 25600 h) refl a b (eqb-true _ _ e)
     hundred false e a b = rw (eq-eqb (u % 10 ^ 12) 0 a, b, e) (sym (isnt-rows u (λ k. absurd (eqb-false (h % 100) 0 e (hundreds u k)))))
 
-    counted : (t : Bool) → leb 100000 h ≡ t → u % 10 ^ 12 ≡ 0 → statusIn (hundredthsOf n) ≡ rowsOf u
-    counted true e a = rw (eq-eqb (u % 10 ^ 12) 0 a, e) (sym (isnt-rows u (λ k. omega (arith, leb-true 100000 h e))))
+    counted : (t : Bool) → leb (2 ^ 32) h ≡ t → u % 10 ^ 12 ≡ 0 → statusIn (hundredthsOf n) ≡ rowsOf u
+    counted true e a = rw (eq-eqb (u % 10 ^ 12) 0 a, e) (sym (isnt-rows u (λ k. omega (arith, leb-true (2 ^ 32) h e))))
     counted false e a = hundred (eqb (h % 100) 0) refl a e
 
     whole : (t : Bool) → eqb (u % 10 ^ 12) 0 ≡ t → statusIn (hundredthsOf n) ≡ rowsOf u
-    whole true e = counted (leb 100000 h) refl (eqb-true _ _ e)
+    whole true e = counted (leb (2 ^ 32) h) refl (eqb-true _ _ e)
     whole false e = rw e (sym (isnt-rows u (λ k. absurd (eqb-false (u % 10 ^ 12) 0 e (omega arith)))))

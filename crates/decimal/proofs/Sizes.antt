@@ -9,8 +9,8 @@ use native.Mathlib.Omega.{arith}
 use borrow.Author.Tests.{lt-ltb, le-ltb, le-leb, eq-eqb, ne-eqb, ltb-true, ltb-false, eqb-true, eqb-false}
 use lib.Dec.{ltb, eqb, eqb·suc-zero}
 use Rattle.buffer.specs.First.{pick}
-use Rattle.buffer.proofs.Laws.{ten-max}
-use Rattle.decimal.specs.Exact.{sizeOf}
+use Rattle.buffer.proofs.Laws.{ten-step, ten-max}
+use Rattle.decimal.specs.Exact.{digitsIn, sizeOf}
 use Rattle.decimal.specs.Number.{countedOf}
 use Rattle.decimal.specs.Inner.{Scaled}
 use Rattle.decimal.specs.declared.Hundredths.{Hundredths}
@@ -56,11 +56,11 @@ units-pos m p h = mul-pos h (ten-pos p)
 
 -- ---- hundredths
 
-large : (h : ℕ) → 100000 ≤ h → countedOf h ≡ Hundredths.Other
+large : (h : ℕ) → 4294967296 ≤ h → countedOf h ≡ Hundredths.Other
 unfolding countedOf pick
-large h k = rw (le-leb 100000 h k)
+large h k = rw (le-leb 4294967296 h k)
 
--- what is scaled beyond a u32 is no small count either way
+-- what is scaled beyond a u32 is no count that it can hold
 pub counted-scaled : (m d r : ℕ) → Scaled m d r → countedOf r ≡ countedOf (m * 10 ^ d)
 counted-scaled m d r (inl e) = ap countedOf e
 counted-scaled m d r (inr w) = large r (omega (arith, w .0)) ∙ sym (large (m * 10 ^ d) (omega (arith, w .1)))
@@ -93,31 +93,48 @@ count-below m p h =
 
 -- ---- how many digits
 
-size-row : (n k j : ℕ) → n < 10 ^ j → n < 10 ^ pick (ltb n (10 ^ k)) k j
-unfolding pick
-size-row n k j h = go (ltb n (10 ^ k)) refl
+-- with steps enough: n is below 10 ^ z, and not below 10 ^ (z - 1)
+high-in : (k : ℕ) (b : Bool) (n : ℕ) → ltb n 10 ≡ b → n ≤ k → n < 10 ^ digitsIn k b n
+high-in zero b n e h = omega arith
+high-in (suc k) true n e h = ltb-true n 10 e
+high-in (suc k) false n e h =
+    rw (ten-step (digitsIn k (ltb (n / 10) 10) (n / 10))) (omega (arith, high-in k (ltb (n / 10) 10) (n / 10) refl (omega (arith, ltb-false n 10 e))))
+
+low-in : (k : ℕ) (b : Bool) (n : ℕ) → ltb n 10 ≡ b → 0 < n → 10 ^ digitsIn k b n ≤ n * 10
+low-in zero b n e h = omega arith
+low-in (suc k) true n e h = omega arith
+low-in (suc k) false n e h =
+    rw (ten-step (digitsIn k (ltb (n / 10) 10) (n / 10))) (omega (arith, low-in k (ltb (n / 10) 10) (n / 10) refl (omega (arith, ltb-false n 10 e))))
+
+pub size-high : (n : ℕ) → n < 10 ^ sizeOf n
+unfolding sizeOf
+size-high n = high-in n (ltb n 10) n refl (omega arith)
+
+pub size-low : (n : ℕ) → 0 < n → 10 ^ sizeOf n ≤ n * 10
+unfolding sizeOf
+size-low n h = low-in n (ltb n 10) n refl h
+
+-- a number below 10 has one digit
+pub size-one : (n : ℕ) → n < 10 → sizeOf n ≡ 1
+unfolding sizeOf
+size-one zero h = refl
+size-one (suc n) h = rw (lt-ltb (suc n) 10 h)
+
+-- a smaller power of ten is smaller
+less-power : (a b : ℕ) → 10 ^ a < 10 ^ b → a < b
+less-power a b h = go (ltb a b) refl
   where
-    go : (t : Bool) → ltb n (10 ^ k) ≡ t → n < 10 ^ pick t k j
-    go true e = ltb-true n (10 ^ k) e
-    go false e = h
+    go : (t : Bool) → ltb a b ≡ t → a < b
+    go true e = ltb-true a b e
+    go false e = absurd (omega (arith, ten-max b a (ltb-false a b e)))
 
--- a number of z digits is below 10 ^ z
-pub size-high : (n : ℕ) → n < 10 ^ 10 → n < 10 ^ sizeOf n
-unfolding sizeOf
-size-high n h =
-    size-row n 1 _ (size-row n 2 _ (size-row n 3 _ (size-row n 4 _ (size-row n 5 _ (size-row n 6 _ (size-row n 7 _ (size-row n 8 _ (size-row n 9 _ h))))))))
+-- a number that is not 0 and below 10 ^ z has at most z digits
+pub size-most : (n z : ℕ) → 0 < n → n < 10 ^ z → sizeOf n ≤ z
+size-most n z h k = omega (arith, less-power (sizeOf n) (z + 1) (rw (ten-step z) (omega (arith, size-low n h))))
 
-low-row : (b : Bool) (k j n : ℕ) → k ≤ n → j ≤ n → pick b k j ≤ n
-unfolding pick
-low-row true k j n h g = h
-low-row false k j n h g = g
-
-pub size-max : (n : ℕ) → sizeOf n ≤ 10
-unfolding sizeOf
-size-max n =
-    low-row _ 1 _ 10 (omega arith) (low-row _ 2 _ 10 (omega arith) (low-row _ 3 _ 10 (omega arith) (low-row _ 4 _ 10 (omega arith)
-    (low-row _ 5 _ 10 (omega arith) (low-row _ 6 _ 10 (omega arith) (low-row _ 7 _ 10 (omega arith) (low-row _ 8 _ 10 (omega arith)
-    (low-row _ 9 _ 10 (omega arith) (omega arith)))))))))
+-- and z where it is not below 10 ^ (z - 1): no other number of digits does
+pub size-is : (n z : ℕ) → 10 ^ z ≤ n → n < 10 ^ (z + 1) → sizeOf n ≡ z + 1
+size-is n z h k = omega (arith, size-most n (z + 1) (omega (arith, ten-pos z)) k, less-power z (sizeOf n) (omega (arith, size-high n)))
 
 -- a size is not 0 exactly where its mantissa is not
 pub some-size : (m p : ℕ) → not (eqb m 0) ≡ ltb 0 (m * 10 ^ p)

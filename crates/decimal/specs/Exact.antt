@@ -1,7 +1,7 @@
 -- Exact decimal values and the canonical number of each. Assumes nothing.
-use mathlib.Core.Bool.{false, not}
+use mathlib.Core.Bool.{Bool, true, false, not}
 use mathlib.Core.List.{[], _∷_}
-use Prim.Native.Nat.{ℕ, _+_, _-_, _*_, _/_, _%_, _^_}
+use Prim.Native.Nat.{ℕ, zero, suc, _+_, _-_, _*_, _/_, _%_, _^_}
 use lib.Dec.{ltb, leb, eqb}
 use Rattle.buffer.specs.First.{_⇒_, first}
 use Rattle.decimal.specs.declared.Number.{Number}
@@ -17,21 +17,14 @@ units n = n .mantissa * 10 ^ n .place
 abbrev pub zeroNumber : Number
 zeroNumber = record { negative = false; mantissa = 0; place = 0 }
 
--- how many decimal digits n has (n is a machine number: at most ten)
+-- how many decimal digits n has: one if it is below 10, which `last` says, and else one more than its tens have. (n steps are always enough)
+abbrev pub digitsIn : ℕ → Bool → ℕ → ℕ
+digitsIn zero last n = 1
+digitsIn (suc steps) true n = 1
+digitsIn (suc steps) false n = digitsIn steps (ltb (n / 10) 10) (n / 10) + 1
+
 unfoldable pub sizeOf : ℕ → ℕ
-sizeOf n =
-    first
-    (ltb n 10 ⇒ 1
-    ∷ ltb n 100 ⇒ 2
-    ∷ ltb n 1000 ⇒ 3
-    ∷ ltb n 10000 ⇒ 4
-    ∷ ltb n 100000 ⇒ 5
-    ∷ ltb n 1000000 ⇒ 6
-    ∷ ltb n 10000000 ⇒ 7
-    ∷ ltb n 100000000 ⇒ 8
-    ∷ ltb n 1000000000 ⇒ 9
-    ∷ [])
-    10
+sizeOf n = digitsIn n (ltb n 10) n
 
 -- The canonical number of a value: six digits, the first not zero, and the first one's place from 10^-9, which is 0, to 10^9, which is 18.
 -- "The value is exact. It is zero or has its first nonzero digit at a place from 10^-9 to 10^9; else RANGE." A value that needs over six

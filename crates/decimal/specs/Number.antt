@@ -24,10 +24,10 @@ belowOf a b = ltb (plus a + minus b) (plus b + minus a)
 unfoldable pub sameValue : Number → Number → Bool
 sameValue a b = eqb (plus a + minus b) (plus b + minus a)
 
--- a count of hundredths, where they are fewer than 100000
+-- a count that the type of a count, a u32, can hold: no limit of document 01's on hundredths is near its end
 unfoldable pub countedOf : ℕ → Hundredths
-countedOf h = first (leb 100000 h ⇒ Other ∷ []) (Whole h)
+countedOf h = first (leb (2 ^ 32) h ⇒ Other ∷ []) (Whole h)
 
--- how many hundredths a number's size is, where they are whole and fewer than 100000
+-- "whole hundredths": how many hundredths a number's size is, where they are whole
 unfoldable pub hundredthsOf : Number → Hundredths
 hundredthsOf n = first (not (eqb (units n % 10 ^ 12) 0) ⇒ Other ∷ []) (countedOf (units n / 10 ^ 12))

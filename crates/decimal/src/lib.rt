@@ -356,16 +356,17 @@ pub enum Hundredths {
     Other,
 }
 
+// A count of hundredths, where it fits a u32.
 fn counted(v: u64) -> Hundredths
     ensures { λ r. ⌜ r ≡ countedOf v ⌝ }
 {
-    if 100000 <= v {
+    if 4294967296 <= v {
         return Hundredths::Other;
     }
     Hundredths::Whole(v as u32)
 }
 
-// How many hundredths a number's size is, where they are whole and fewer than 100000.
+// How many hundredths a number's size is, where they are whole and fit a u32.
 pub fn in_hundredths(n: Number) -> Hundredths
     ensures { λ r. ⌜ r ≡ hundredthsOf n ⌝ }
 {

@@ -7,17 +7,18 @@ use native.Mathlib.Omega.{arith}
 use lib.ListN.{length, length-append}
 use lib.Seq.{take-length}
 use Rattle.decimal.specs.Form.{scanOf, answerOf, numberOf}
-use Rattle.decimal.specs.Exact.{normalOf}
+use Rattle.decimal.specs.Exact.{zeroNumber, normalOf}
 use Rattle.decimal.specs.declared.Exact.{Exact}
 use Rattle.decimal.specs.declared.Number.{Number}
 use Rattle.decimal.specs.declared.Scan.{Scan}
 use Rattle.decimal.specs.declared.Scan.the-variants.{Of, NoForm}
+use Rattle.decimal.specs.declared.Parsed.{Parsed}
 use Rattle.decimal.specs.declared.Parsed.the-variants.{Value, Syntax, Range}
 use Rattle.buffer.proofs.Laws.{ten-max}
 use Rattle.decimal.proofs.Laws.{numeral-front}
 use Rattle.decimal_facts.specs.Grammar.{Parts, Good, dash, point, exponent, textOf, meaning}
 use Rattle.decimal_facts.specs.Canonical.{Exactly, TooSmall, TooLarge}
-use Rattle.decimal_facts.specs.Value.{exact, range, no-syntax}
+use Rattle.decimal_facts.specs.Value.{exact, range, is-zero, no-syntax}
 use Rattle.decimal_facts.specs.Lemmas.Digits.{every-append}
 use Rattle.decimal_facts.specs.Lemmas.Reader.{leading-all, no-dash, signed, unsigned-reads, shape}
 
@@ -65,12 +66,37 @@ syntax-exactly s =
     go n (Of x) e = let w = sound s x e in absurd (n (w .0) (w .1) (w .2))
     go n NoForm e = no-form s e
 
+-- what is answered with a number or RANGE is a text of the form, and answered as its value is
+pub of-form : (s : List ℕ) (r : Parsed) → numberOf s ≡ r → (r ≡ Syntax → ⊥) → (p : Parts) × Good p × (textOf p ≡ s) × (normalOf (meaning p) ≡ r)
+of-form s r e n = go (scanOf s) refl
+  where
+    go : (k : Scan) → scanOf s ≡ k → (p : Parts) × Good p × (textOf p ≡ s) × (normalOf (meaning p) ≡ r)
+    go (Of x) k = let w = sound s x k in (w .0, w .1, w .2, sym (form-reads (w .0) (w .1)) ∙ rw (w .2) e)
+    go NoForm k = absurd (n (sym e ∙ no-form s k))
+
 -- a number is answered exactly where it is the canonical number of the text's value
 pub value-exactly : (p : Parts) (n : Number) → Good p → (numberOf (textOf p) ≡ Value n) ↔ Exactly (meaning p) n
-value-exactly p n g = rw (form-reads p g) (exact (meaning p) n (omega (arith, form-six p g)))
+value-exactly p n g = rw (form-reads p g) (exact (meaning p) n)
 
--- RANGE is answered, of what is not zero, exactly where the first nonzero digit stands below 10^-9 or above 10^9
-pub range-exactly : (p : Parts) → Good p → 0 < meaning p .digits → (numberOf (textOf p) ≡ Range) ↔ (TooSmall (meaning p) ⊎ TooLarge (meaning p))
-range-exactly p g h =
-    let l = form-six p g in
-    rw (form-reads p g) (range (meaning p) h (omega arith) (meaning p .digits, 0, l, omega arith))
+-- "`-0` is zero.": zero is answered exactly where the digits before the exponent spell 0, whatever sign, point and exponent
+pub zero-exactly : (p : Parts) → Good p → (numberOf (textOf p) ≡ Value zeroNumber) ↔ (meaning p .digits ≡ 0)
+zero-exactly p g = rw (form-reads p g) (is-zero (meaning p))
+
+-- the value is not zero, and its first nonzero digit stands below 10^-9 or above 10^9
+abbrev pub OutOfRange : Exact → Type 0
+OutOfRange x = (0 < x .digits) × (TooSmall x ⊎ TooLarge x)
+
+-- RANGE is answered exactly where the value is out of range
+pub form-range : (p : Parts) → Good p → (numberOf (textOf p) ≡ Range) ↔ OutOfRange (meaning p)
+form-range p g =
+    rw (form-reads p g)
+    (λ e. let w = range (meaning p) .0 e in (w .0, w .2), λ w. range (meaning p) .1 (w .0, (meaning p .digits, 0, form-six p g, omega arith), w .1))
+
+-- and of no other text
+pub range-exactly : (s : List ℕ) → (numberOf s ≡ Range) ↔ ((p : Parts) × Good p × (textOf p ≡ s) × OutOfRange (meaning p))
+range-exactly s =
+    (λ e. let w = of-form s Range e no in (w .0, w .1, w .2, form-range (w .0) (w .1) .0 (form-reads (w .0) (w .1) ∙ w .3)),
+    λ w. let e : textOf (w .0) ≡ s = w .2 in rw (← e) (form-range (w .0) (w .1) .1 (w .3)))
+  where
+    no : Range ≡ Syntax → ⊥
+    no e = let z : _≡_ {A = ℕ} 0 1 = cc in omega arith

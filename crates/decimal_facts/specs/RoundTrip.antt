@@ -36,7 +36,7 @@ pub hundredths-read : (negative : Bool) (h : ℕ) → h < 100000
     → (n : Number) × (numberOf (twoDecimals negative h) ≡ Value n) × (hundredthsOf n ≡ Whole h) × (0 < h → n .negative ≡ negative)
 hundredths-read negative h k =
     rw (← (decimals-text negative h), form-reads (decimals negative h) (decimals-good negative h k), decimals-mean negative h k)
-    (decimals-count negative h _ k (answers _ (omega arith)))
+    (decimals-count negative h _ k (answers _))
 
 -- what a text is sent as, once read
 abbrev pub sentOf : Parsed → List ℕ

@@ -1,41 +1,42 @@
--- Document 01, "Decimal numbers": the value is exact; RANGE; one value has one number; `-0` is zero. Assumes nothing.
-use mathlib.Core.Path.{_≡_, refl}
+-- Document 01, "Decimal numbers": the value is exact; RANGE; `-0` is zero; one value has one number; whole hundredths. Assumes nothing.
+use mathlib.Core.Path.{_≡_}
 use mathlib.Core.Bool.{true}
-use mathlib.Core.List.{[], _∷_}
 use mathlib.Core.Logic.{_⊎_, _↔_}
-use Prim.Native.Nat.{_+_, _^_, _<_}
+use Prim.Native.Nat.{ℕ, _+_, _*_, _^_, _<_}
 use native.Mathlib.Omega.{arith}
 use borrow.Author.Tests.{eqb-true}
-use Rattle.buffer.specs.First.{pick}
-use Rattle.decimal.specs.Exact.{units, zeroNumber, sizeOf, normalOf}
-use Rattle.decimal.specs.Form.{leading, startsWith, powerOf, exponentOf, fractionOf, unsignedOf, scanOf, answerOf, numberOf}
-use Rattle.buffer.specs.Byte.{within, numeralFrom}
-use Rattle.decimal.specs.Number.{plus, minus, sameValue}
+use Rattle.decimal.specs.Exact.{units, zeroNumber, normalOf}
+use Rattle.decimal.specs.Number.{plus, minus, sameValue, hundredthsOf}
 use Rattle.decimal.specs.declared.Number.{Number}
 use Rattle.decimal.specs.declared.Exact.{Exact}
+use Rattle.decimal.specs.declared.Hundredths.the-variants.{Whole}
 use Rattle.decimal.specs.declared.Parsed.the-variants.{Value, Syntax, Range}
 use Rattle.decimal_facts.specs.Canonical.{Canonical, Exactly, TooSmall, TooLarge, SixDigits, Answers}
-use Rattle.decimal_facts.specs.Lemmas.Rows.{rows, signs, canonical-same, answered-exactly, exactly-answered, range-outside, outside-range, syntax-six, six-syntax}
+use Rattle.decimal_facts.specs.Lemmas.Rows.{rows, signs, canonical-same, answered-exactly, exactly-answered, range-outside, outside-range, syntax-six, six-syntax, zero-exactly, exactly-none, hundredths-of, counted}
 
 -- the whole of `normalOf`: zero; or the canonical number of the value; or RANGE; or, where the value needs over six digits, SYNTAX
-pub answers : (x : Exact) → x .digits < 10 ^ 10 → Answers x (normalOf x)
-answers x h = rows x h
+pub answers : (x : Exact) → Answers x (normalOf x)
+answers x = rows x
 
 -- "The value is exact.": a number is answered exactly where it is the canonical number of the value
-pub exact : (x : Exact) (n : Number) → x .digits < 10 ^ 10 → (normalOf x ≡ Value n) ↔ Exactly x n
-exact x n h = (answered-exactly x n (normalOf x) (answers x h), exactly-answered x n (normalOf x) (answers x h))
+pub exact : (x : Exact) (n : Number) → (normalOf x ≡ Value n) ↔ Exactly x n
+exact x n = (answered-exactly x n (normalOf x) (answers x), exactly-answered x n (normalOf x) (answers x))
 
--- "its first nonzero digit at a place from 10^-9 to 10^9; else RANGE"
-pub range : (x : Exact) → 0 < x .digits → x .digits < 10 ^ 10 → SixDigits (x .digits) → (normalOf x ≡ Range) ↔ (TooSmall x ⊎ TooLarge x)
-range x g h s = (range-outside x (normalOf x) (answers x h), outside-range x (normalOf x) g s (answers x h))
+-- "It is zero or has its first nonzero digit at a place from 10^-9 to 10^9; else RANGE."
+pub range : (x : Exact) → (normalOf x ≡ Range) ↔ ((0 < x .digits) × SixDigits (x .digits) × (TooSmall x ⊎ TooLarge x))
+range x = (range-outside x (normalOf x) (answers x), λ w. outside-range x (normalOf x) (w .0) (w .1) (answers x) (w .2))
 
 -- and SYNTAX exactly where six digits are not enough
-pub syntax : (x : Exact) → 0 < x .digits → x .digits < 10 ^ 10 → (normalOf x ≡ Syntax) ↔ (SixDigits (x .digits) → ⊥)
-syntax x g h = (syntax-six x (normalOf x) (answers x h), six-syntax x (normalOf x) g (answers x h))
+pub syntax : (x : Exact) → (normalOf x ≡ Syntax) ↔ ((0 < x .digits) × (SixDigits (x .digits) → ⊥))
+syntax x = (syntax-six x (normalOf x) (answers x), λ w. six-syntax x (normalOf x) (w .0) (answers x) (w .1))
 
 -- so never where the digits are at most six
 pub no-syntax : (x : Exact) → x .digits < 10 ^ 6 → normalOf x ≡ Syntax → ⊥
-no-syntax x h e = syntax-six x (normalOf x) (answers x (omega arith)) e (x .digits, 0, h, omega arith)
+no-syntax x h e = syntax x .0 e .1 (x .digits, 0, h, omega arith)
+
+-- "`-0` is zero.": zero is answered exactly where the digits are 0, whatever the sign and the power of ten
+pub is-zero : (x : Exact) → (normalOf x ≡ Value zeroNumber) ↔ (x .digits ≡ 0)
+is-zero x = (λ e. exactly-none x (exact x zeroNumber .0 e), λ e. exact x zeroNumber .1 (zero-exactly x e))
 
 -- two canonical numbers with the same value are one
 pub same : (a b : Number) → Canonical a → Canonical b → sameValue a b ≡ true → a ≡ b
@@ -44,17 +45,6 @@ same a b f g e =
     let w = signs (a .negative) (b .negative) (units a) (units b) (eqb-true (plus a + minus b) (plus b + minus a) e) in
     canonical-same a b f g (w .0) (w .1)
 
--- "`-0` is zero."
-pub minus-zero : numberOf (45 ∷ 48 ∷ []) ≡ Value zeroNumber
-unfolding numberOf answerOf scanOf unsignedOf fractionOf exponentOf powerOf leading startsWith normalOf sizeOf pick within numeralFrom
-minus-zero = refl
-
--- `0e99` is zero
-pub zero-e99 : numberOf (48 ∷ 101 ∷ 57 ∷ 57 ∷ []) ≡ Value zeroNumber
-unfolding numberOf answerOf scanOf unsignedOf fractionOf exponentOf powerOf leading startsWith normalOf sizeOf pick within numeralFrom
-zero-e99 = refl
-
--- `-0.0` is zero
-pub minus-zero-point : numberOf (45 ∷ 48 ∷ 46 ∷ 48 ∷ []) ≡ Value zeroNumber
-unfolding numberOf answerOf scanOf unsignedOf fractionOf exponentOf powerOf leading startsWith normalOf sizeOf pick within numeralFrom
-minus-zero-point = refl
+-- "whole hundredths": a number has a count of them exactly where that many hundredths are its size, and the count is one that its type holds
+pub hundredths-exactly : (n : Number) (h : ℕ) → (hundredthsOf n ≡ Whole h) ↔ ((units n ≡ h * 10 ^ 12) × (h < 2 ^ 32))
+hundredths-exactly n h = (λ e. rw e at (counted n), λ w. hundredths-of n h (w .0) (w .1))

@@ -7,6 +7,7 @@ use native.Mathlib.Omega.{arith}
 use Rattle.buffer.specs.Byte.{digit}
 use Rattle.decimal_text.specs.Written.{writtenOf, twoDecimals}
 use Rattle.decimal_facts.specs.RoundTrip.{written-reads, hundredths-read}
+use Rattle.decimal_facts.specs.Value.{hundredths-exactly}
 use Rattle.settings.specs.Settings.{Held, keyOf}
 use Rattle.settings.specs.Sent.{transitionText, streamText, readText}
 use Rattle.settings.specs.declared.Transition.{Transition}
@@ -20,7 +21,6 @@ use Rattle.forms.specs.declared.Verdict.the-variants.{Set}
 use Rattle.forms_facts.specs.Sound.{Sound, SoundSettings}
 use Rattle.forms_facts.specs.Form.{Form}
 use Rattle.forms_facts.specs.Exactly.{accepted-exactly}
-use Rattle.forms_facts.specs.Lemmas.Numbers.{of-hundredths}
 use Rattle.forms_facts.specs.Lemmas.Texts.{list-again}
 
 -- the value of a setting
@@ -57,7 +57,7 @@ value-sound SM s f = tt
 factor-form : (h : ℕ) → Sound (Factor h) → Form (twoDecimals false h) (Factor h)
 factor-form h k =
     let w = hundredths-read false h (omega (arith, k .1)) in
-    (w .0, w .1, w .3 (omega (arith, k .0)), rw (w .2) at (of-hundredths (w .0)))
+    (w .0, w .1, w .3 (omega (arith, k .0)), hundredths-exactly (w .0) _ .0 (w .2) .0)
 
 digit-form : (d : ℕ) → d < 10 → _≡_ {A = List ℕ} (digit d ∷ []) ((d + 48) ∷ [])
 digit-form d h =

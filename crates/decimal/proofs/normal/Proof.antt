@@ -5,7 +5,7 @@ use Rattle.buffer.proofs.Rules.{rules}
 use Prim.Native.Nat.{_*_, _/_, _^_, _<_}
 use native.Mathlib.Nat.{div-lt-iff-lt-mul, mul-lt-mul-of-pos-right, mul-comm}
 use Rattle.decimal.specs.Exact.{normalOf}
-use Rattle.decimal.proofs.Sizes.{size-high, size-max, ten-pos}
+use Rattle.decimal.proofs.Sizes.{size-high, size-most, ten-pos}
 use Rattle.decimal.proofs.normal.Statement.{statement}
 use Rattle.decimal.proofs.normal.Tie as tie
 
@@ -14,7 +14,7 @@ unfolding normalOf
 returns c = search rules
 
 ten-to-requires : tie.Need-ten-to-requires
-ten-to-requires c κs = omega (arith, c .size-of .ensures, size-max (c .before .before .args .x .digits))
+ten-to-requires c κs = omega (arith, c .size-of .ensures, size-most (c .before .before .args .x .digits) 10 (search needs) (search needs))
 
 rem-if2 : tie.Need-rem-if2
 rem-if2 c = rw (c .ten-to .ensures) (ten-pos (c .before .size-of .result))
@@ -38,8 +38,7 @@ cast-t14 : tie.Need-cast-t14
 cast-t14 c =
     let d = c .before .before .before .before .before .before .before .before .args .x .digits in
     let z = c .before .before .before .before .before .before .size-of in
-    let f : d < 4294967296 = search needs in
-    let g : d < 10 ^ z .result = rw (z .ensures) (size-high d (omega arith)) in
+    let g : d < 10 ^ z .result = rw (z .ensures) (size-high d) in
     let h : d * 1000000 / c .before .before .before .before .before .ten-to .result < 1000000 = rw (c .before .before .before .before .before .ten-to .ensures) (div-lt-iff-lt-mul (ten-pos (z .result)) .1 (rw (mul-comm 1000000 (10 ^ z .result)) (mul-lt-mul-of-pos-right g (omega arith)))) in
     record { fits = omega arith }
 

@@ -4,28 +4,15 @@ use mathlib.Core.Bool.{Bool, true, false}
 use Prim.Native.Nat.{ℕ, suc, _+_, _-_, _*_, _^_, _%_, _<_, _≤_}
 use native.Mathlib.Nat.{le-of-mul-le-mul-right, lt-of-mul-lt-mul-right, mul-lt-mul-of-pos-right, mul-le-mul-right, mul-mod-left, mul-assoc, eq-of-mul-eq-mul-right, le-mul-of-pos-right}
 use native.Mathlib.Omega.{arith}
-use borrow.Author.Tests.{ltb-false, leb-true, leb-false}
-use lib.Dec.{ltb, leb}
+use borrow.Author.Tests.{leb-true, leb-false}
+use lib.Dec.{leb}
 use lib.Pow.{pow-add}
-use Rattle.buffer.specs.First.{pick}
 use Rattle.buffer.proofs.Laws.{ten-max}
-use Rattle.buffer.proofs.Rules.{each}
 use Rattle.decimal.specs.Exact.{sizeOf}
-use Rattle.decimal.proofs.Sizes.{ten-pos, ten-split}
+use Rattle.decimal.proofs.Sizes.{ten-pos, ten-split, size-low}
 use Rattle.decimal_facts.specs.Canonical.{SixDigits}
 
 -- ---- how many digits
-
-low-row : (n k j : ℕ) → 10 ^ k ≤ n * 10 → (10 ^ k ≤ n → 10 ^ j ≤ n * 10) → 10 ^ pick (ltb n (10 ^ k)) k j ≤ n * 10
-low-row n k j h g = each (λ (r : ℕ). 10 ^ r ≤ n * 10) (ltb n (10 ^ k)) k j (λ _. h) (λ e. g (ltb-false n (10 ^ k) e))
-
--- a number of z digits is at least 10 ^ (z - 1)
-pub size-low : (n : ℕ) → 0 < n → 10 ^ sizeOf n ≤ n * 10
-unfolding sizeOf
-size-low n h =
-    low-row n 1 _ (omega arith) (λ a. low-row n 2 _ (omega arith) (λ b. low-row n 3 _ (omega arith)
-    (λ c. low-row n 4 _ (omega arith) (λ d. low-row n 5 _ (omega arith) (λ e. low-row n 6 _ (omega arith)
-    (λ f. low-row n 7 _ (omega arith) (λ g. low-row n 8 _ (omega arith) (λ i. low-row n 9 _ (omega arith) (λ j. omega arith)))))))))
 
 -- d of z digits, and its six digits m
 module _ (d z m : ℕ) (q : m * 10 ^ z ≡ d * 10 ^ 6) where

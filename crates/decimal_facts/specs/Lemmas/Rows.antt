@@ -1,22 +1,26 @@
--- Lemmas on the rows of `normalOf`, and on canonical numbers. Assumes nothing.
+-- Lemmas on the rows of `normalOf`, on canonical numbers and on hundredths. Assumes nothing.
 use mathlib.Core.Path.{_≡_, refl, sym, ap, _∙_}
 use mathlib.Core.Bool.{Bool, true, false, cond, not}
 use mathlib.Core.Logic.{_⊎_, inl, inr}
 use Prim.Native.Nat.{ℕ, _+_, _-_, _*_, _/_, _%_, _^_, _<_}
-use native.Mathlib.Nat.{div-add-mod', eq-of-mul-eq-mul-right, mul-pos}
+use native.Mathlib.Nat.{div-add-mod', eq-of-mul-eq-mul-right, mul-pos, mul-mod-left, mul-div-left}
 use native.Mathlib.Omega.{arith}
-use borrow.Author.Tests.{ltb-true, ltb-false, leb-true, leb-false, eqb-true, eqb-false, not-true, not-false}
+use borrow.Author.Tests.{lt-leb, ltb-true, ltb-false, leb-true, leb-false, eqb-true, eqb-false, not-true, not-false}
 use lib.Dec.{ltb, leb, eqb}
 use lib.Pow.{pow-add}
+use Rattle.buffer.specs.First.{pick}
 use Rattle.buffer.proofs.Rules.{each}
 use Rattle.decimal.specs.Exact.{units, zeroNumber, sizeOf, normalOf}
+use Rattle.decimal.specs.Number.{countedOf, hundredthsOf}
 use Rattle.decimal.specs.declared.Number.{Number}
+use Rattle.decimal.specs.declared.Hundredths.{Hundredths}
+use Rattle.decimal.specs.declared.Hundredths.the-variants.{Whole, Other}
 use Rattle.decimal.specs.declared.Exact.{Exact}
 use Rattle.decimal.specs.declared.Parsed.{Parsed}
 use Rattle.decimal.specs.declared.Parsed.the-variants.{Value, Syntax, Range}
-use Rattle.decimal.proofs.Sizes.{ten-pos, size-high, units-pos}
+use Rattle.decimal.proofs.Sizes.{ten-pos, size-low, size-high, units-pos}
 use Rattle.decimal_facts.specs.Canonical.{Full, Canonical, Exactly, TooSmall, TooLarge, SixDigits, Answers, nothing, number, outside, uneven}
-use Rattle.decimal_facts.specs.Lemmas.Powers.{size-low, six-low, six-high, six-same, six-equal, six-divides, small, large, not-small, not-large, units-low, units-high, same-place, same-mantissa}
+use Rattle.decimal_facts.specs.Lemmas.Powers.{six-low, six-high, six-same, six-equal, six-divides, small, large, not-small, not-large, units-low, units-high, same-place, same-mantissa}
 
 -- ---- the rows of `normalOf`
 
@@ -29,7 +33,7 @@ sixOf x =
       place = sizeOf (x .digits) + 8 + x .up - x .down;
     }
 
-module _ (x : Exact) (h : x .digits < 10 ^ 10) (a : eqb (x .digits) 0 ≡ false) where
+module _ (x : Exact) (a : eqb (x .digits) 0 ≡ false) where
   some : 0 < x .digits
   some = omega (arith, eqb-false (x .digits) 0 a)
 
@@ -43,10 +47,10 @@ module _ (x : Exact) (h : x .digits < 10 ^ 10) (a : eqb (x .digits) 0 ≡ false)
         omega (arith, div-add-mod' (x .digits * 10 ^ 6) (10 ^ sizeOf (x .digits)))
 
     six : SixDigits (x .digits)
-    six = six-equal _ (sizeOf (x .digits)) (x .digits) 6 (six-high (x .digits) (sizeOf (x .digits)) _ whole (size-high (x .digits) h)) whole
+    six = six-equal _ (sizeOf (x .digits)) (x .digits) 6 (six-high (x .digits) (sizeOf (x .digits)) _ whole (size-high (x .digits))) whole
 
     row-small : ltb (sizeOf (x .digits) + 8 + x .up) (x .down) ≡ true → Answers x Range
-    row-small c = outside some six (inl (small (x .digits) (sizeOf (x .digits)) (x .up) (x .down) (size-high (x .digits) h) (ltb-true _ _ c)))
+    row-small c = outside some six (inl (small (x .digits) (sizeOf (x .digits)) (x .up) (x .down) (size-high (x .digits)) (ltb-true _ _ c)))
 
     row-large : leb (x .down + 19) (sizeOf (x .digits) + 8 + x .up) ≡ true → Answers x Range
     row-large c = outside some six (inr (large (x .digits) (sizeOf (x .digits)) (x .up) (x .down) (size-low (x .digits) some) (leb-true _ _ c)))
@@ -59,18 +63,18 @@ module _ (x : Exact) (h : x .digits < 10 ^ 10) (a : eqb (x .digits) 0 ≡ false)
         let f : Full (sixOf x) =
         record {
           low = six-low (x .digits) (sizeOf (x .digits)) _ whole (size-low (x .digits) some);
-          high = six-high (x .digits) (sizeOf (x .digits)) _ whole (size-high (x .digits) h);
+          high = six-high (x .digits) (sizeOf (x .digits)) _ whole (size-high (x .digits));
           place = omega arith;
         } in
         number (sixOf x) some (record { canonical = inr f; size = six-same (x .digits) (sizeOf (x .digits)) _ whole (x .up) (x .down) l; sign = λ _. refl })
 
-pub rows : (x : Exact) → x .digits < 10 ^ 10 → Answers x (normalOf x)
+pub rows : (x : Exact) → Answers x (normalOf x)
 unfolding normalOf
-rows x h =
+rows x =
     each (Answers x) (eqb (x .digits) 0) (Value zeroNumber) _ (λ a. nothing (eqb-true (x .digits) 0 a))
-    (λ a. each (Answers x) (not (eqb (x .digits * 10 ^ 6 % 10 ^ sizeOf (x .digits)) 0)) Syntax _ (row-uneven x h a)
-    (λ b. each (Answers x) (ltb (sizeOf (x .digits) + 8 + x .up) (x .down)) Range _ (row-small x h a b)
-    (λ c. each (Answers x) (leb (x .down + 19) (sizeOf (x .digits) + 8 + x .up)) Range _ (row-large x h a b) (row-number x h a b c))))
+    (λ a. each (Answers x) (not (eqb (x .digits * 10 ^ 6 % 10 ^ sizeOf (x .digits)) 0)) Syntax _ (row-uneven x a)
+    (λ b. each (Answers x) (ltb (sizeOf (x .digits) + 8 + x .up) (x .down)) Range _ (row-small x a b)
+    (λ c. each (Answers x) (leb (x .down + 19) (sizeOf (x .digits) + 8 + x .up)) Range _ (row-large x a b) (row-number x a b c))))
 
 -- ---- one value has one number
 
@@ -144,9 +148,16 @@ range-syntax : Range ≡ Syntax → ⊥
 range-syntax e = let z : _≡_ {A = ℕ} 0 1 = cc in omega arith
 
 -- zero is the number of no digits, and of them alone
-zero-exactly : (x : Exact) → x .digits ≡ 0 → Exactly x zeroNumber
+pub zero-exactly : (x : Exact) → x .digits ≡ 0 → Exactly x zeroNumber
 unfolding units
 zero-exactly x z = record { canonical = inl refl; size = rw z (omega arith); sign = λ (h : 0 < x .digits). absurd (omega arith) }
+
+pub exactly-none : (x : Exact) → Exactly x zeroNumber → x .digits ≡ 0
+exactly-none x f = go (eqb (x .digits) 0) refl
+  where
+    go : (b : Bool) → eqb (x .digits) 0 ≡ b → x .digits ≡ 0
+    go true e = eqb-true (x .digits) 0 e
+    go false e = absurd (omega (arith, exactly-full x zeroNumber (omega (arith, eqb-false (x .digits) 0 e)) f .low))
 
 exactly-zero : (x : Exact) (n : Number) → x .digits ≡ 0 → Exactly x n → zeroNumber ≡ n
 exactly-zero x n z f = go (f .canonical)
@@ -169,10 +180,10 @@ exactly-answered x n r (uneven h w) f = absurd (w (exactly-six x n h f))
 
 -- ---- RANGE and SYNTAX
 
-pub range-outside : (x : Exact) (r : Parsed) → Answers x r → r ≡ Range → TooSmall x ⊎ TooLarge x
+pub range-outside : (x : Exact) (r : Parsed) → Answers x r → r ≡ Range → (0 < x .digits) × SixDigits (x .digits) × (TooSmall x ⊎ TooLarge x)
 range-outside x r (nothing z) e = absurd (range-value zeroNumber (sym e))
 range-outside x r (number n h f) e = absurd (range-value n (sym e))
-range-outside x r (outside h w o) e = o
+range-outside x r (outside h w o) e = (h, w, o)
 range-outside x r (uneven h w) e = absurd (range-syntax (sym e))
 
 pub outside-range : (x : Exact) (r : Parsed) → 0 < x .digits → SixDigits (x .digits) → Answers x r → TooSmall x ⊎ TooLarge x → r ≡ Range
@@ -181,14 +192,31 @@ outside-range x r g s (number n h f) o = absurd (exactly-within x n h f o)
 outside-range x r g s (outside h w k) o = refl
 outside-range x r g s (uneven h w) o = absurd (w s)
 
-pub syntax-six : (x : Exact) (r : Parsed) → Answers x r → r ≡ Syntax → SixDigits (x .digits) → ⊥
+pub syntax-six : (x : Exact) (r : Parsed) → Answers x r → r ≡ Syntax → (0 < x .digits) × (SixDigits (x .digits) → ⊥)
 syntax-six x r (nothing z) e = absurd (syntax-value zeroNumber (sym e))
 syntax-six x r (number n h f) e = absurd (syntax-value n (sym e))
 syntax-six x r (outside h w o) e = absurd (range-syntax e)
-syntax-six x r (uneven h w) e = w
+syntax-six x r (uneven h w) e = (h, w)
 
 pub six-syntax : (x : Exact) (r : Parsed) → 0 < x .digits → Answers x r → (SixDigits (x .digits) → ⊥) → r ≡ Syntax
 six-syntax x r g (nothing z) s = absurd (omega arith)
 six-syntax x r g (number n h f) s = absurd (s (exactly-six x n h f))
 six-syntax x r g (outside h w o) s = absurd (s w)
 six-syntax x r g (uneven h w) s = refl
+
+-- ---- hundredths
+
+pub hundredths-of : (n : Number) (h : ℕ) → units n ≡ h * 10 ^ 12 → h < 2 ^ 32 → hundredthsOf n ≡ Whole h
+unfolding hundredthsOf countedOf pick
+hundredths-of n h e k = rw (e, mul-mod-left h (10 ^ 12), mul-div-left h (ten-pos 12), lt-leb (2 ^ 32) h k)
+
+abbrev Counted : Number → Hundredths → Type 0
+Counted n (Whole h) = (units n ≡ h * 10 ^ 12) × (h < 2 ^ 32)
+Counted n Other = Unit {0}
+
+pub counted : (n : Number) → Counted n (hundredthsOf n)
+unfolding hundredthsOf countedOf
+counted n =
+    each (Counted n) (not (eqb (units n % 10 ^ 12) 0)) Other _ (λ _. tt)
+    (λ e. each (Counted n) (leb (2 ^ 32) (units n / 10 ^ 12)) Other (Whole (units n / 10 ^ 12)) (λ _. tt)
+    (λ f. (let z = eqb-true (units n % 10 ^ 12) 0 (not-false _ e) in omega arith, leb-false (2 ^ 32) (units n / 10 ^ 12) f)))

@@ -4,9 +4,9 @@ use mathlib.Core.Bool.{Bool, true, false, cond, _&&_}
 use mathlib.Core.List.{List, [], _∷_, _++_, append-assoc, append-nil}
 use mathlib.Core.Logic.{inl, inr}
 use Prim.Native.Nat.{ℕ, suc, _+_, _-_, _*_, _/_, _^_, _<_, _≤_}
-use native.Mathlib.Nat.{pow-suc, sub-zero, suc-sub-suc, div-div-eq-div-mul, mul-mod-left, mul-div-left}
+use native.Mathlib.Nat.{pow-suc, sub-zero, suc-sub-suc, div-div-eq-div-mul}
 use native.Mathlib.Omega.{arith}
-use borrow.Author.Tests.{le-leb, lt-leb, ne-eqb, ltb-true, ltb-false, eqb-true}
+use borrow.Author.Tests.{le-leb, ne-eqb, ltb-true, ltb-false, eqb-true}
 use lib.Dec.{ltb, eqb}
 use lib.ListN.{length}
 use Rattle.buffer.specs.First.{pick}
@@ -14,18 +14,18 @@ use Rattle.buffer.specs.Byte.{within, isDigit, every, numeralFrom, numeral, dig
 use Rattle.buffer.proofs.Rules.{each}
 use Rattle.decimal.specs.Exact.{units, zeroNumber, sizeOf, normalOf}
 use Rattle.decimal.specs.Form.{leading, startsWith, exponentOf, unsignedOf, scanOf, answerOf, numberOf}
-use Rattle.decimal.specs.Number.{countedOf, hundredthsOf}
+use Rattle.decimal.specs.Number.{hundredthsOf}
 use Rattle.decimal.specs.declared.Number.{Number}
 use Rattle.decimal.specs.declared.Parsed.{Parsed}
 use Rattle.decimal.specs.declared.Parsed.the-variants.{Value}
 use Rattle.decimal.specs.declared.Hundredths.the-variants.{Whole}
-use Rattle.decimal.proofs.Sizes.{ten-pos}
 use Rattle.decimal_text.specs.Written.{signText, trimmed, pointed, digits5, exponentText, writtenOf, wholeText, twoDecimals}
 use Rattle.decimal_text.proofs.Laws.{trim-le}
 use Rattle.decimal_facts.specs.Grammar.{Parts, Good, dash, point, exponent, textOf, meaning}
 use Rattle.decimal_facts.specs.Canonical.{Full, Exactly, Answers, nothing, number, outside, uneven}
 use Rattle.decimal_facts.specs.Lemmas.Digits.{both-left, both-right, numeral-append}
 use Rattle.decimal_facts.specs.Lemmas.Powers.{moved-same}
+use Rattle.decimal_facts.specs.Lemmas.Rows.{hundredths-of}
 
 -- ---- the written form
 
@@ -223,17 +223,13 @@ decimals-mean negative h k =
 abbrev Counted : Bool → ℕ → Parsed → Type 0
 Counted negative h r = (n : Number) × (r ≡ Value n) × (hundredthsOf n ≡ Whole h) × (0 < h → n .negative ≡ negative)
 
-hundredths-of : (n : Number) (h : ℕ) → units n ≡ h * 10 ^ 12 → h < 100000 → hundredthsOf n ≡ Whole h
-unfolding hundredthsOf countedOf pick
-hundredths-of n h e k = rw (e, mul-mod-left h (10 ^ 12), mul-div-left h (ten-pos 12), lt-leb 100000 h k)
-
 pub decimals-count : (negative : Bool) (h : ℕ) (r : Parsed) → h < 100000
     → Answers (record { negative = cond (eqb h 0) false negative; digits = h; up = 0; down = 2 }) r → Counted negative h r
 unfolding units
-decimals-count negative h r k (nothing z) = (zeroNumber, refl, hundredths-of zeroNumber h (omega arith) k, λ (g : 0 < h). absurd (omega arith))
+decimals-count negative h r k (nothing z) = (zeroNumber, refl, hundredths-of zeroNumber h (omega arith) (omega arith), λ (g : 0 < h). absurd (omega arith))
 decimals-count negative h r k (number n g f) =
     let e : eqb h 0 ≡ false = ne-eqb h 0 (λ (z : h ≡ 0). omega arith) in
-    (n, refl, hundredths-of n h (omega (arith, f .size)) k, λ _. rw e at (f .sign g))
+    (n, refl, hundredths-of n h (omega (arith, f .size)) (omega arith), λ _. rw e at (f .sign g))
 decimals-count negative h r k (outside g w (inl o)) = absurd (omega arith)
 decimals-count negative h r k (outside g w (inr o)) = absurd (omega arith)
 decimals-count negative h r k (uneven g w) = absurd (w (h, 0, omega arith, omega arith))

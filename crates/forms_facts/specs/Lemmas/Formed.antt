@@ -32,6 +32,7 @@ use Rattle.settings.specs.declared.Key.{Key}
 use Rattle.settings.specs.declared.Key.the-variants.{DA, DU, C1, CM, CC, FC, ST, SM}
 use Rattle.settings.specs.declared.Setting.{Setting}
 use Rattle.settings.specs.declared.Setting.the-variants.{Address, PressureIn, Factor, Control, Cathode, Filament, Switch, Stream}
+use Rattle.decimal_facts.specs.Value.{hundredths-exactly}
 use Rattle.forms.specs.Forms.{addressData, unitData, factorIn, factorOf, digitData, digitOf, limitedOf, directOf, betweenOf, endsOf, transitionOf, transitionData, idleList, knownMode, streamOf, streamData}
 use Rattle.forms.specs.Judged.{verdictOf}
 use Rattle.forms.specs.declared.Ends.{Ends}
@@ -48,7 +49,7 @@ use Rattle.forms_facts.specs.Sound.{InLimits, Sound}
 use Rattle.forms_facts.specs.Again.{sent-as-accepted}
 use Rattle.forms_facts.specs.Lemmas.Lacks.{split, until-lacks, until-split}
 use Rattle.forms_facts.specs.Lemmas.Lists.{entries-short}
-use Rattle.forms_facts.specs.Lemmas.Numbers.{read-lacks, hundredths-of, of-hundredths}
+use Rattle.forms_facts.specs.Lemmas.Numbers.{read-lacks}
 use Rattle.forms_facts.specs.Lemmas.Texts.{none-number, list-number}
 use Rattle.forms_facts.specs.Form.{Form}
 
@@ -105,7 +106,7 @@ factor-formed s = go (numberOf s) refl
     whole : (n : Number) (h : Hundredths) → numberOf s ≡ Value n → n .negative ≡ false → hundredthsOf n ≡ h → Formed C1 s (factorIn h)
     whole n (Whole h) e f g =
         each (Formed C1 s) (not (within (standard .factorLow) (standard .factorHigh) h)) (Refused 11) (Set (Factor h)) (λ _. tt)
-        (λ _. (refl, (n, e, f, rw g at (of-hundredths n))))
+        (λ _. (refl, (n, e, f, hundredths-exactly n h .0 g .0)))
     whole n Other e f g = tt
 
     go : (p : Parsed) → numberOf s ≡ p → Formed C1 s (factorOf p)
@@ -265,7 +266,7 @@ pub is-set : (s : List ℕ) (x : Setting) → Form s x → Sound x → verdictOf
 unfolding verdictOf
 is-set s (Address v) f h = rw f (address-set v h)
 is-set s (PressureIn u) f h = rw f (unit-set u)
-is-set s (Factor k) f h = factor-set s k (f .0) (f .1) (f .2) (hundredths-of (f .0) k (f .3) (omega (arith, h .1))) h
+is-set s (Factor k) f h = factor-set s k (f .0) (f .1) (f .2) (hundredths-exactly (f .0) k .1 (f .3, omega (arith, h .1))) h
 is-set s (Control d) f h = digit-set Control (standard .controlHigh) d s f h (omega arith)
 is-set s (Cathode d) f h = digit-set Cathode (standard .cathodeHigh) d s f h (omega arith)
 is-set s (Filament d) f h = digit-set Filament (standard .filamentHigh) d s f h (omega arith)

@@ -1,25 +1,19 @@
 -- Numbers that a reader answers, and their texts. Assumes nothing.
 use mathlib.Core.Path.{_≡_, refl}
-use mathlib.Core.Bool.{Bool, true, false, not}
+use mathlib.Core.Bool.{Bool, true, false}
 use mathlib.Core.List.{List, [], _∷_, _++_}
 use mathlib.Core.Logic.{_⊎_, inl, inr}
-use Prim.Native.Nat.{ℕ, _*_, _/_, _%_, _^_, _<_}
+use Prim.Native.Nat.{ℕ}
 use native.Mathlib.Omega.{arith}
-use borrow.Author.Tests.{ne-eqb, lt-leb, eqb-true, not-false}
-use lib.Dec.{eqb, leb}
-use Rattle.buffer.specs.First.{pick}
+use borrow.Author.Tests.{ne-eqb}
+use lib.Dec.{eqb}
 use Rattle.buffer.specs.Byte.{isDigit, every}
 use Rattle.buffer.proofs.Laws.{within-true}
-use Rattle.buffer.proofs.Rules.{each}
-use Rattle.decimal.specs.Exact.{units}
 use Rattle.decimal.specs.Form.{scanOf, numberOf}
-use Rattle.decimal.specs.Number.{countedOf, hundredthsOf}
 use Rattle.decimal.specs.declared.Number.{Number}
 use Rattle.decimal.specs.declared.Scan.{Scan}
 use Rattle.decimal.specs.declared.Scan.the-variants.{Of, NoForm}
 use Rattle.decimal.specs.declared.Parsed.the-variants.{Value}
-use Rattle.decimal.specs.declared.Hundredths.{Hundredths}
-use Rattle.decimal.specs.declared.Hundredths.the-variants.{Whole, Other}
 use Rattle.decimal_facts.specs.Grammar.{Parts, Good, dash, point, exponent, textOf}
 use Rattle.decimal_facts.specs.Canonical.{Canonical}
 use Rattle.decimal_facts.specs.Accepts.{sound, no-form, value-exactly}
@@ -76,24 +70,3 @@ form-lacks p g =
 
 pub read-lacks : (s : List ℕ) (n : Number) → numberOf s ≡ Value n → lacks 84 s ≡ true
 read-lacks s n e = let w = read-form s n e in rw (w .2) at (form-lacks (w .0) (w .1))
-
--- ---- hundredths
-
--- a number of h hundredths
-pub hundredths-of : (n : Number) (h : ℕ) → units n ≡ h * 10 ^ 12 → h < 100000 → hundredthsOf n ≡ Whole h
-unfolding hundredthsOf countedOf pick
-hundredths-of n h e k =
-    let a : h * 10 ^ 12 % 10 ^ 12 ≡ 0 = omega arith in
-    let b : h * 10 ^ 12 / 10 ^ 12 ≡ h = omega arith in
-    rw (e, a, b, lt-leb 100000 h k)
-
-abbrev Counted : Number → Hundredths → Type 0
-Counted n (Whole h) = units n ≡ h * 10 ^ 12
-Counted n Other = Unit {0}
-
-pub of-hundredths : (n : Number) → Counted n (hundredthsOf n)
-unfolding hundredthsOf countedOf
-of-hundredths n =
-    each (Counted n) (not (eqb (units n % 10 ^ 12) 0)) Other _ (λ _. tt)
-    (λ e. each (Counted n) (leb 100000 (units n / 10 ^ 12)) Other (Whole (units n / 10 ^ 12)) (λ _. tt)
-    (λ _. let z = eqb-true (units n % 10 ^ 12) 0 (not-false _ e) in omega arith))

@@ -18,9 +18,9 @@ use Rattle.requests.specs.declared.RequestV1.{RequestV1}
 use Rattle.request_texts.specs.RequestText.{accessOf, commandIn}
 use Rattle.request_writer.specs.Typed.{formedV1}
 use Rattle.request_writer.specs.Written.{requestWrittenV2, requestWrittenV1}
-use Rattle.written_facts.specs.Same.{SameV2, SameSetting, SameSwitch, Sized}
+use Rattle.written_facts.specs.Same.{SameV2, SameSetting, SameSwitch}
 use Rattle.written_facts.specs.Lemmas.Asked.{asked-v1}
-use Rattle.written_facts.specs.Again.{Typed, inV1, inV2, written, SizedRequest}
+use Rattle.written_facts.specs.Again.{Typed, inV1, inV2, written}
 use Rattle.written_facts.specs.Back.{FormedV2, formed, frame-is, framed-v1, FormedV1, formed-v1}
 use Rattle.replies_v2.specs.ReplyV2.{readV2, readList}
 use Rattle.replies_v1.specs.ReplyV1.{readV1}
@@ -68,13 +68,13 @@ asked-by f = record { frame = frame-is f .0; asks = rw (frame-is f .1) (f .asks)
 
 -- a request that the writer accepts for the gauge's address, answered by the gauge with 64 bytes lent and read again: the value that the
 -- gauge holds, or the error that document 01 fixes; and, for a read of SM, the list that it holds
-module _ (lent room : ℕ) (g : State) (r : RequestV2) (q : Sources) (sound : SoundState g) (sized : Sized r) (enough : 64 ≤ room)
+module _ (lent room : ℕ) (g : State) (r : RequestV2) (q : Sources) (sound : SoundState g) (enough : 64 ≤ room)
     (accepted : requestWrittenV2 lent (g .settings .address) r q .number ≡ 0) where
   abbrev bytes : List ℕ
   bytes = requestWrittenV2 lent (g .settings .address) r q .reply
 
   abbrev formed-by : FormedV2 (g .settings .address) r (listOf q) bytes
-  formed-by = formed lent (g .settings .address) r q sized accepted
+  formed-by = formed lent (g .settings .address) r q accepted
 
   pub exchange-v2 : readV2 (g .settings .address) r (answerOf g room bytes .reply) ≡ expectedV2 g r
   exchange-v2 = v2.exchange-v2 g room (g .settings .address) bytes (formed-by .again) r sound enough refl (asked-by formed-by) (alike r (formed-by .again) (formed-by .same))
@@ -100,7 +100,7 @@ ReadAsHeld g (inV1 r) s = readV1 (g .settings .address) r s ≡ expectedV1 g r
 ReadAsHeld g (inV2 r q) s = (readV2 (g .settings .address) r s ≡ expectedV2 g r) × (readList (g .settings .address) r s ≡ expectedListV2 g r)
 
 -- any request that the writer accepts for the gauge's address, answered with 64 bytes lent: the reader of its protocol reads what the gauge holds
-pub exchange : (lent room : ℕ) (g : State) (t : Typed) → SoundState g → SizedRequest t → 64 ≤ room → written lent (g .settings .address) t .number ≡ 0
+pub exchange : (lent room : ℕ) (g : State) (t : Typed) → SoundState g → 64 ≤ room → written lent (g .settings .address) t .number ≡ 0
     → ReadAsHeld g t (answerOf g room (written lent (g .settings .address) t .reply) .reply)
-exchange lent room g (inV1 r) sound sized enough accepted = exchange-v1 lent room g r sound enough accepted
-exchange lent room g (inV2 r q) sound sized enough accepted = (exchange-v2 lent room g r q sound sized enough accepted, exchange-list-v2 lent room g r q sound sized enough accepted)
+exchange lent room g (inV1 r) sound enough accepted = exchange-v1 lent room g r sound enough accepted
+exchange lent room g (inV2 r q) sound enough accepted = (exchange-v2 lent room g r q sound enough accepted, exchange-list-v2 lent room g r q sound enough accepted)

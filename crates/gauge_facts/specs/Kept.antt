@@ -14,7 +14,7 @@ use Rattle.readings.specs.Bench.{benchOf}
 use Rattle.readings.specs.declared.Bench.{Bench}
 use Rattle.readings.specs.declared.Benched.{Benched}
 use Rattle.readings.specs.declared.Benched.the-variants.{Accepted, Refused}
-use Rattle.readings_facts.specs.Sound.{SoundReadings, Machine}
+use Rattle.readings_facts.specs.Sound.{SoundReadings}
 use Rattle.readings_facts.specs.Kept as readings
 use Rattle.forms_facts.specs.Sound.{Sound, SoundSettings}
 use Rattle.forms_facts.specs.Kept.{factory-sound}
@@ -60,13 +60,13 @@ module _ (g : State) (room : ℕ) (s : List ℕ) where
   pub next-sound : SoundState g → SoundState (nextOf g room s)
   next-sound f = record { settings = settings-sound (f .settings); readings = rw (readings-stay g room s) (f .readings) }
 
--- and so does any bench setting whose digits are a machine number, as they are in every bench call
-pub bench-sound : (g : State) (b : Bench) → Machine b → SoundState g → SoundState (benched g (benchOf b))
+-- and so does any bench setting
+pub bench-sound : (g : State) (b : Bench) → SoundState g → SoundState (benched g (benchOf b))
 unfolding benched
-bench-sound g b m f = go (benchOf b) refl
+bench-sound g b f = go (benchOf b) refl
   where
     go : (x : Benched) → benchOf b ≡ x → SoundState (benched g x)
-    go (Accepted r) e = record { settings = f .settings; readings = readings.bench-sound (g .readings) b r m (f .readings) e }
+    go (Accepted r) e = record { settings = f .settings; readings = readings.bench-sound (g .readings) b r (f .readings) e }
     go Refused e = f
 
 -- "A transition's lower end stays below its upper end."

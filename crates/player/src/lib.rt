@@ -4,7 +4,6 @@ ghost use mathlib.Core.Bool.{true, false};
 ghost use mathlib.Core.List.{[]};
 ghost use Prim.Native.Nat.{_<_, _≤_};
 ghost use lib.ListN.{length};
-ghost use Rattle.readings_facts.specs.Sound.{Machine};
 ghost use Rattle.script.specs.declared.To.the-variants.{Text, Opg};
 ghost use Rattle.player.specs.Played.{asked, lined, told, offered, Ran};
 ghost use Rattle.player.specs.Inner.{Traces, Made, One};
@@ -107,7 +106,6 @@ fn show(g: Gauges, part: &mut [u8], at: usize, used: usize) -> Turn
 
 // A bench setting of the text gauge, which has no reply.
 fn tell(g: Gauges, b: readings::Bench, at: usize, used: usize) -> Turn
-    requires { ⌜ Machine b ⌝ }
     ensures { λ r. ⌜ Made g (told b (r .number)) at used r ⌝ }
 {
     let old = g.text;

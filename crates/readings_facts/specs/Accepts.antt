@@ -12,7 +12,7 @@ use Rattle.readings.specs.declared.Benched.{Benched}
 use Rattle.readings.specs.declared.Benched.the-variants.{Accepted, Refused}
 use Rattle.readings_facts.specs.Handed.{Handed}
 use Rattle.readings_facts.specs.Kept.{accepted-sound}
-use Rattle.readings_facts.specs.Sound.{SoundReading, Machine}
+use Rattle.readings_facts.specs.Sound.{SoundReading}
 use Rattle.readings_facts.specs.Lemmas.Handed.{handed-over, handed-back, handed-one}
 
 -- the reading is for the source that is named, it is what is handed over, and the paper allows it there
@@ -22,18 +22,18 @@ pub record Sets (b : Bench) (x : Reading) : Type 0 where
   pub sound : SoundReading x
 
 -- a bench setting is accepted as a reading exactly where it sets that reading
-pub bench-exactly : (b : Bench) (x : Reading) → Machine b → (benchOf b ≡ Accepted x) ↔ Sets b x
-bench-exactly b x m = (
-  λ e. record { there = bench-there b x e; handed = handed-over b x m e; sound = accepted-sound b x m e },
-  λ (s : Sets b x). handed-back b x m (s .there) (s .handed) (s .sound),
+pub bench-exactly : (b : Bench) (x : Reading) → (benchOf b ≡ Accepted x) ↔ Sets b x
+bench-exactly b x = (
+  λ e. record { there = bench-there b x e; handed = handed-over b x e; sound = accepted-sound b x e },
+  λ (s : Sets b x). handed-back b x (s .there) (s .handed) (s .sound),
 )
 
 -- "An accepted bench setting is answered 0": exactly where there is such a reading; "anything else is refused with 15 BENCH"
-pub accepts-exactly : (b : Bench) → Machine b → (benchNumber (benchOf b) ≡ 0) ↔ ((x : Reading) × Sets b x)
-accepts-exactly b m = (go (benchOf b) refl, λ w. ap benchNumber (bench-exactly b (w .0) m .1 (w .1)))
+pub accepts-exactly : (b : Bench) → (benchNumber (benchOf b) ≡ 0) ↔ ((x : Reading) × Sets b x)
+accepts-exactly b = (go (benchOf b) refl, λ w. ap benchNumber (bench-exactly b (w .0) .1 (w .1)))
   where
     go : (r : Benched) → benchOf b ≡ r → benchNumber r ≡ 0 → (x : Reading) × Sets b x
-    go (Accepted x) e z = (x, bench-exactly b x m .0 e)
+    go (Accepted x) e z = (x, bench-exactly b x .0 e)
     go Refused e z = absurd (omega arith)
 
 -- what is handed over fixes the reading

@@ -11,7 +11,7 @@ use Rattle.readings.specs.declared.Reading.the-variants.{P0, P1, P2, P6, P7, T2
 use Rattle.readings.specs.declared.Readings.{Readings}
 use Rattle.readings.specs.declared.Bench.{Bench}
 use Rattle.readings.specs.declared.Benched.the-variants.{Accepted}
-use Rattle.readings_facts.specs.Sound.{SoundPressure, SoundReading, SoundReadings, Machine}
+use Rattle.readings_facts.specs.Sound.{SoundPressure, SoundReading, SoundReadings}
 use Rattle.readings_facts.specs.Lemmas.Good.{bench-good}
 
 one-sound : SoundPressure oneMbar
@@ -34,9 +34,9 @@ put-sound r (T6 v) f h = record { p0 = f .p0; p1 = f .p1; p2 = f .p2; p6 = f .p6
 put-sound r (FS v) f h = record { p0 = f .p0; p1 = f .p1; p2 = f .p2; p6 = f .p6; p7 = f .p7; t2 = f .t2; t6 = f .t6; status = h }
 
 -- what the bench accepts is sound
-pub accepted-sound : (b : Bench) (x : Reading) → Machine b → benchOf b ≡ Accepted x → SoundReading x
-accepted-sound b x m e = rw e at (bench-good b m)
+pub accepted-sound : (b : Bench) (x : Reading) → benchOf b ≡ Accepted x → SoundReading x
+accepted-sound b x e = rw e at (bench-good b)
 
 -- and keeps the readings so; "anything else is refused .. and changes nothing"
-pub bench-sound : (r : Readings) (b : Bench) (x : Reading) → Machine b → SoundReadings r → benchOf b ≡ Accepted x → SoundReadings (putReading r x)
-bench-sound r b x m f e = put-sound r x f (accepted-sound b x m e)
+pub bench-sound : (r : Readings) (b : Bench) (x : Reading) → SoundReadings r → benchOf b ≡ Accepted x → SoundReadings (putReading r x)
+bench-sound r b x f e = put-sound r x f (accepted-sound b x e)

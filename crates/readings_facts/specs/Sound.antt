@@ -55,11 +55,3 @@ pub record SoundReadings (r : Readings) : Type 0 where
   pub t2 : SoundTemperature (r .t2)
   pub t6 : SoundTemperature (r .t6)
   pub status : r .status ≤ 3
-
--- the digits of a value are a machine number, as they are in every bench call
-abbrev pub Machine : Bench → Type 0
-Machine (Reads code x) = x .digits < 2 ^ 32
-Machine (BelowRange code) = Unit {0}
-Machine (AboveRange code) = Unit {0}
-Machine (Fault code) = Unit {0}
-Machine (Status v) = Unit {0}

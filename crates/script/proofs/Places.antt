@@ -39,7 +39,7 @@ ends script s at n e h k = let w : length s ≡ length script - at = ap length e
 shift : (script s : List ℕ) (at : ℕ) (k : Call) → s ≡ drop at script → Fits (length s) 0 k → Fits (length script) at k
 shift script s at (Request to room len) e f = (f .0, omega (arith, ends script s at (5 + len) e (omega arith) (f .1)))
 shift script s at (Line room) e f = (f .0, ends script s at 3 e (omega arith) (f .1))
-shift script s at (Setting b) e f = (f .0, ends script s at 10 e (omega arith) (f .1))
+shift script s at (Setting b) e f = ends script s at 10 e (omega arith) f
 shift script s at (Offer p) e f = ends script s at 6 e (omega arith) f
 shift script s at End e f = tt
 

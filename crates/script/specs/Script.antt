@@ -8,7 +8,6 @@ use Rattle.buffer.specs.First.{_⇒_, first}
 use Rattle.buffer.specs.Byte.{at}
 use Rattle.decimal.specs.declared.Exact.{Exact}
 use Rattle.readings.specs.declared.Bench.the-variants.{Reads, BelowRange, AboveRange, Fault, Status}
-use Rattle.readings_facts.specs.Sound.{Machine}
 use Rattle.opg_gauge.specs.declared.Pressure.the-variants.{Bits, Unavailable}
 use Rattle.script.specs.Number.{pairAt, wordAt}
 use Rattle.script.specs.declared.To.{To}
@@ -76,10 +75,10 @@ roomOf (Setting b) = 0
 roomOf (Offer p) = 0
 roomOf End = 0
 
--- a call that was read at place `at` of n bytes ends within them, and its room and its setting are machine numbers
+-- a call that was read at place `at` of n bytes ends within them, and its room is a 16-bit number
 abbrev pub Fits : ℕ → ℕ → Call → Type 0
 Fits n at (Request to room len) = (room < 65536) × (at + 5 + len ≤ n)
 Fits n at (Line room) = (room < 65536) × (at + 3 ≤ n)
-Fits n at (Setting b) = Machine b × (at + 10 ≤ n)
+Fits n at (Setting b) = at + 10 ≤ n
 Fits n at (Offer p) = at + 6 ≤ n
 Fits n at End = Unit {0}

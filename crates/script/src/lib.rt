@@ -76,7 +76,6 @@ fn line_of(s: &[u8]) -> Call
 fn value_of(s: &[u8]) -> decimal::Exact
     requires { ⌜ 10 ≤ length (now s) ⌝ }
     ensures { λ r. ⌜ r ≡ valueOf (now (s .entry)) ⌝ }
-    ensures { λ r. ⌜ r .digits < 4294967296 ⌝ }
 {
     decimal::Exact {
         negative: s[3] != 0,

@@ -2,15 +2,10 @@
 -- constructors themselves. None of the four functions has a `requires` (`Asked`). a is the arguments, r the result, x the parameters at exit.
 -- Assumes nothing.
 use mathlib.Core.List.{[], _∷_}
-use native.Mathlib.Omega.{arith}
 use contract.Lifetimes.{Lfts}
-use borrow.Fn.Kinds.{Dens, GoodsP, resT, endedOf}
+use borrow.Fn.Kinds.{Dens, resT, endedOf}
 use denote.Triple.Clauses.{AtExit}
 use denote.Ref.{now}
-use Rattle.readings.specs.declared.Bench.{Bench}
-use Rattle.readings.specs.declared.Bench.the-variants.{Reads, BelowRange, AboveRange, Fault, Status}
-use Rattle.readings_facts.specs.Sound.{Machine}
-use Rattle.gauge_rules.specs.declared.Gauge.{Gauge}
 use Rattle.sequence_facts.specs.Sequence.{History, asked, set, lined, Trace, begin, ask, tell, show}
 use Rattle.gauge_rules.proofs.Gauge.at_start.Kinds as at-start-kinds
 use Rattle.gauge_rules.proofs.Gauge.at_start.Reads as at-start-reads
@@ -30,18 +25,10 @@ pub ask-step : {h : History} (κs : Lfts 2) (a : Dens κs answer-kinds.ps) (r : 
     → Trace (asked (now (a .1 .0)) (now (a .1 .1 .0)) (r .written .number) (r .written .len) (now (x .1 .1 .0)) ∷ h) (r .gauge)
 ask-step κs a r x t contract = ask t contract
 
--- a bench setting's digits are a machine number: that is part of being a value of the parameter's type (`GoodsP`)
-machine : (κs : Lfts 0) (g : Gauge) (b : Bench) → GoodsP κs set-bench-kinds.ps (g, (b, tt)) → Machine b
-machine κs g (Reads code x) good = omega arith
-machine κs g (BelowRange code) good = tt
-machine κs g (AboveRange code) good = tt
-machine κs g (Fault code) good = tt
-machine κs g (Status v) good = tt
-
 pub tell-step : {h : History} (κs : Lfts 0) (a : Dens κs set-bench-kinds.ps) (r : resT set-bench-kinds.r κs .Denot)
-    (x : AtExit (endedOf 0 set-bench-kinds.ps set-bench-kinds.r) κs) → Trace h (a .0) → GoodsP κs set-bench-kinds.ps a → set-bench-reads.Learnt κs a r x
+    (x : AtExit (endedOf 0 set-bench-kinds.ps set-bench-kinds.r) κs) → Trace h (a .0) → set-bench-reads.Learnt κs a r x
     → Trace (set (a .1 .0) (r .number) ∷ h) (r .gauge)
-tell-step κs a r x t good contract = tell t (machine κs (a .0) (a .1 .0) good) contract
+tell-step κs a r x t contract = tell t contract
 
 pub show-step : {h : History} (κs : Lfts 1) (a : Dens κs stream-line-kinds.ps) (r : resT stream-line-kinds.r κs .Denot)
     (x : AtExit (endedOf 1 stream-line-kinds.ps stream-line-kinds.r) κs) → Trace h (a .0) → stream-line-reads.Learnt κs a r x

@@ -20,7 +20,6 @@ use Rattle.readings.specs.declared.Benched.{Benched}
 use Rattle.readings.specs.declared.Benched.the-variants as bench
 use Rattle.readings.specs.Place.{Place, codeOf, readingAt}
 use Rattle.readings.specs.There.{names}
-use Rattle.readings_facts.specs.Sound.{Machine}
 use Rattle.line.specs.Line.{lineAnswer}
 use Rattle.gauge_rules.specs.State.{State, stateOf}
 use Rattle.gauge_rules.specs.declared.Gauge.{Gauge}
@@ -85,14 +84,14 @@ unsaid a = refl
 -- ---- one bench setting
 
 module _ (m : State) where
-  reading-set : (p : Place) (o : Origin) (b : Bench) → Machine b → Stands p o (readingAt p (m .readings))
+  reading-set : (p : Place) (o : Origin) (b : Bench) → Stands p o (readingAt p (m .readings))
       → Stands p (orElse (pick (eqb (benchNumber (benchOf b)) 0 && sameCode (names b) (codeOf p)) (some (handed b)) none) o) (readingAt p (benched m (benchOf b) .readings))
   unfolding benched orElse pick
-  reading-set p o b k f = go (benchOf b) refl
+  reading-set p o b f = go (benchOf b) refl
     where
       go : (x : Benched) → benchOf b ≡ x
           → Stands p (orElse (pick (eqb (benchNumber x) 0 && sameCode (names b) (codeOf p)) (some (handed b)) none) o) (readingAt p (benched m x .readings))
-      go (bench.Accepted x) e = accepted-stands p o (m .readings) b x k e f
+      go (bench.Accepted x) e = accepted-stands p o (m .readings) b x e f
       go bench.Refused e = f
 
   settings-stay : (x : Benched) → benched m x .settings ≡ m .settings
@@ -146,16 +145,16 @@ sofar (ask {h} {g} {s} {before} {after} {r} t a) =
       unlocked = follows saysUnlock false e h _ _ (c .unlocked) (ap (λ (m : State). m .unlocked) (a .state) ∙ rw n (unlock-next (stateOf g) (length before) s));
       sound = rw (a .state) (next-sound (stateOf g) (length before) s (c .sound));
     }
-sofar (tell {h} {g} {b} {r} t k a) =
+sofar (tell {h} {g} {b} {r} t a) =
     let c = sofar t in
     let e = set b (r .number) in
     record {
       answers = (a .number, c .answers);
       holds = a .state ∙ ap (λ (m : State). benched m (benchOf b)) (c .holds);
       setting = λ key. follows (saysSetting key) (holding key factory) e h _ _ (c .setting key) (ap (λ (m : State). holding key (m .settings)) (a .state) ∙ ap (holding key) (settings-stay (stateOf g) (benchOf b)) ∙ unsaid _);
-      reading = λ p. rw (a .state, a .number) (reading-set (stateOf g) p (latest (saysReading p) started h) b k (c .reading p));
+      reading = λ p. rw (a .state, a .number) (reading-set (stateOf g) p (latest (saysReading p) started h) b (c .reading p));
       unlocked = follows saysUnlock false e h _ _ (c .unlocked) (ap (λ (m : State). m .unlocked) (a .state) ∙ unlock-stays (stateOf g) (benchOf b) ∙ unsaid _);
-      sound = rw (a .state) (bench-sound (stateOf g) b k (c .sound));
+      sound = rw (a .state) (bench-sound (stateOf g) b (c .sound));
     }
 sofar (show {h} {g} {before} {after} {w} t a) =
     let c = sofar t in

@@ -23,7 +23,6 @@ use Rattle.readings.specs.declared.Bench.{Bench}
 use Rattle.readings.specs.Place.{Place, codeOf, readingAt}
 use Rattle.readings.specs.There.{names}
 use Rattle.readings_facts.specs.Handed.{Handed}
-use Rattle.readings_facts.specs.Sound.{Machine}
 use Rattle.line.specs.Line.{lineAnswer}
 use Rattle.gauge_rules.specs.State.{State, stateOf, fresh}
 use Rattle.gauge_rules.specs.declared.Gauge.{Gauge}
@@ -61,13 +60,12 @@ abbrev pub model : History → State
 model h = modelOf (map fed h)
 
 -- "Start each simulated gauge at factory settings, and let any sequence of calls reach it .. Each call gets the state that the last one left, and
--- nobody else changes it." Of a call nothing is known but its contract, word for word (a bench setting's digits are a 32-bit number, as the
--- type of the call has them).
+-- nobody else changes it." Of a call nothing is known but its contract, word for word.
 pub data Trace : History → Gauge → Type 0 where
   begin : {g : Gauge} → stateOf g ≡ fresh → Trace [] g
   ask : {h : History} {g : Gauge} {s before after : List ℕ} {r : Answered} → Trace h g → Answers (stateOf g) s before after r
       → Trace (asked s before (r .written .number) (r .written .len) after ∷ h) (r .gauge)
-  tell : {h : History} {g : Gauge} {b : Bench} {r : BenchAnswer} → Trace h g → Machine b → Benches (stateOf g) b r → Trace (set b (r .number) ∷ h) (r .gauge)
+  tell : {h : History} {g : Gauge} {b : Bench} {r : BenchAnswer} → Trace h g → Benches (stateOf g) b r → Trace (set b (r .number) ∷ h) (r .gauge)
   show : {h : History} {g : Gauge} {before after : List ℕ} {w : Written} → Trace h g
       → Sent before (lineAnswer (length before) (held (g .settings)) (g .readings)) after w → Trace (lined before (w .number) (w .len) after ∷ h) g
 

@@ -43,7 +43,6 @@ use Rattle.buffer.specs.declared.Written.{Written}
 use Rattle.sources.specs.declared.Sources.{Sources}
 use Rattle.readings.specs.declared.Bench.{Bench}
 use Rattle.readings.specs.declared.Bench.the-variants.{Reads}
-use Rattle.readings_facts.specs.Sound.{Machine}
 use Rattle.gauge_rules.specs.State.{State, stateOf, fresh}
 use Rattle.gauge_rules.specs.declared.Gauge.{Gauge}
 use Rattle.text_gauge.specs.Answer.{Answers, Benches}
@@ -84,15 +83,6 @@ pub data Call : Type 0 where
   tells : (b : Bench) → Call
   shows : (before : List ℕ) → Call
 
--- a bench setting's digits are a 32-bit number, as the type of the call has them
-abbrev pub Possible : Call → Type 0
-Possible (asks s before) = Unit {0}
-Possible (tells b) = Machine b
-Possible (shows before) = Unit {0}
-
-abbrev pub AllPossible : List Call → Type 0
-AllPossible cs = Each (λ earlier c. Possible c) cs
-
 abbrev pub callOf : Exchange → Call
 callOf (asked s before number len after) = asks s before
 callOf (set b number) = tells b
@@ -124,37 +114,37 @@ plays (asks s before ∷ cs) = ap (λ (rest : List Call). asks s before ∷ rest
 plays (tells b ∷ cs) = ap (λ (rest : List Call). tells b ∷ rest) (plays cs)
 plays (shows before ∷ cs) = ap (λ (rest : List Call). shows before ∷ rest) (plays cs)
 
-play-sound : (cs : List Call) → AllPossible cs → SoundState (model (play cs))
+play-sound : (cs : List Call) → SoundState (model (play cs))
 unfolding play modelOf step
-play-sound [] k = fresh-sound
-play-sound (asks s before ∷ cs) k = next-sound (model (play cs)) (length before) s (play-sound cs (k .1))
-play-sound (tells b ∷ cs) k = bench-sound (model (play cs)) b (k .0) (play-sound cs (k .1))
-play-sound (shows before ∷ cs) k = play-sound cs (k .1)
+play-sound [] = fresh-sound
+play-sound (asks s before ∷ cs) = next-sound (model (play cs)) (length before) s (play-sound cs)
+play-sound (tells b ∷ cs) = bench-sound (model (play cs)) b (play-sound cs)
+play-sound (shows before ∷ cs) = play-sound cs
 
 -- and it is had by a gauge
-pub played : (cs : List Call) → AllPossible cs → Trace (play cs) (gaugeOf (model (play cs)))
+pub played : (cs : List Call) → Trace (play cs) (gaugeOf (model (play cs)))
 unfolding play modelOf step
-played [] k = begin (holds-back fresh fresh-sound)
-played (asks s before ∷ cs) k =
+played [] = begin (holds-back fresh fresh-sound)
+played (asks s before ∷ cs) =
     let m = model (play cs) in
     let n = nextOf m (length before) s in
     let a = tableAnswer m (length before) s in
     let r : Answered = record { gauge = gaugeOf n; written = written a } in
-    ask {r = r} (played cs (k .1))
-    (subst (λ (x : State). Answers x s before (over (a .reply) before) r) (sym (holds-back m (play-sound cs (k .1))))
-    (record { sent = record { number = refl; len = refl; memory = refl }; state = holds-back n (play-sound (asks s before ∷ cs) k) }))
-played (tells b ∷ cs) k =
+    ask {r = r} (played cs)
+    (subst (λ (x : State). Answers x s before (over (a .reply) before) r) (sym (holds-back m (play-sound cs)))
+    (record { sent = record { number = refl; len = refl; memory = refl }; state = holds-back n (play-sound (asks s before ∷ cs)) }))
+played (tells b ∷ cs) =
     let m = model (play cs) in
     let n = benched m (benchOf b) in
     let r : BenchAnswer = record { gauge = gaugeOf n; number = benchNumber (benchOf b) } in
-    tell {r = r} (played cs (k .1)) (k .0)
-    (subst (λ (x : State). Benches x b r) (sym (holds-back m (play-sound cs (k .1))))
-    (record { number = refl; state = holds-back n (play-sound (tells b ∷ cs) k) }))
-played (shows before ∷ cs) k =
+    tell {r = r} (played cs)
+    (subst (λ (x : State). Benches x b r) (sym (holds-back m (play-sound cs)))
+    (record { number = refl; state = holds-back n (play-sound (tells b ∷ cs)) }))
+played (shows before ∷ cs) =
     let m = model (play cs) in
     let a = lineAnswer (length before) (m .settings) (m .readings) in
-    show {w = written a} (played cs (k .1))
-    (subst (λ (x : State). Sent before (lineAnswer (length before) (x .settings) (x .readings)) (over (a .reply) before) (written a)) (sym (holds-back m (play-sound cs (k .1))))
+    show {w = written a} (played cs)
+    (subst (λ (x : State). Sent before (lineAnswer (length before) (x .settings) (x .readings)) (over (a .reply) before) (written a)) (sym (holds-back m (play-sound cs)))
     (record { number = refl; len = refl; memory = refl }))
 
 -- there is no other: the calls fix the whole history
@@ -198,4 +188,4 @@ pub record Reached (cs : List Call) : Type 0 where
 
 pub reached : Reached longest
 unfolding play modelOf step over bytes within every sameText untilOf numeralFrom pick sumOf checksumOf endOf closed isLetter lengthFits misshapen wrongSum wrongAddress wrongLength headV1 headV2 frameV1 frameV2 errorOf errorBytes errorHeadV2 errorHeadV1 errorLetterV1 errorDataV1 numberOf answerOf scanOf unsignedOf fractionOf exponentOf powerOf leading startsWith normalOf sizeOf units plus minus belowOf countedOf hundredthsOf writtenOf signText trimmed pointed exponentText wholeText twoDecimals sourceText isSource findSource sourceOf listText onto parts sourceTexts entriesOf opens entriesNumber entriesList factoryOf putOf restoreOf unitText transitionText streamText readText widthOf widest longestLine putReading pressureText temperatureText valueText isFaulty isFailed sixOf roundedText measureText takes pressureAt temperatureAt pressureOf degreesOf temperatureOf benchOf addressData unitData factorIn factorOf digitData digitOf limitedOf directOf betweenOf endsOf transitionOf transitionData idleList knownMode streamOf streamData verdictOf ifSet listIn commandOf findCommand commandText isAccess canWrite canRestore lacksAccess setOf writeOf askKnown askNamed askV2 writeList namedList askList sixDigits bareOf digitOne oneOf unitAt askV1 filamentOf changesCathode readsFaulty sentText textV2 answerCode enterV2 unitCode textV1 repeats unlocks enterV1 unknownCommand lacks dataNumber badFormV2 outsideV2 endsWrong breaksRule asksFaulty unknownLetter badFormV1 lockedWrite outsideV1 measuresFaulty tableNumber acceptedV2 acceptedV1 replyOf tableAnswer enteredV2 enteredV1 asksUnlock afterwards nextOf benched valueOf valuesOf tailOf joined lineAnswer countOf valuesIn
-reached = record { trace = played longest (tt, (tt, (omega arith, (omega arith, tt)))); calls-are = plays longest; values = refl; line-is = refl; line-bytes = refl }
+reached = record { trace = played longest; calls-are = plays longest; values = refl; line-is = refl; line-bytes = refl }

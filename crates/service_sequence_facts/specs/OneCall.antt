@@ -34,7 +34,7 @@ use Rattle.service_sequence_facts.specs.Calls.{requestsOf, repliesOf, Le
 pub same-state : {h : History} {g g′ : Gauge} → Trace h g → stateOf g′ ≡ stateOf g → Trace h g′
 same-state (begin e) k = begin (k ∙ e)
 same-state {g′ = g′} (ask {r = r} t a) k = ask {r = record { gauge = g′; written = r .written }} t (record { sent = a .sent; state = k ∙ a .state })
-same-state {g′ = g′} (tell {r = r} t m a) k = tell {r = record { gauge = g′; number = r .number }} t m (record { number = a .number; state = k ∙ a .state })
+same-state {g′ = g′} (tell {r = r} t a) k = tell {r = record { gauge = g′; number = r .number }} t (record { number = a .number; state = k ∙ a .state })
 same-state (show {before = before} {after = after} {w = w} t a) k =
     show (same-state t k) (subst (λ (m : State). Sent before (lineAnswer (length before) (m .settings) (m .readings)) after w) (sym k) a)
 

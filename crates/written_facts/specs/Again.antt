@@ -11,7 +11,6 @@ use Rattle.requests.specs.declared.RequestV1.{RequestV1}
 use Rattle.request_writer.specs.Written.{requestWrittenV2, requestWrittenV1}
 use Rattle.request_reader.specs.Decoded.{requestOf}
 use Rattle.request_reader.specs.declared.Request.the-variants.{V1}
-use Rattle.written_facts.specs.Same.{Sized}
 use Rattle.written_facts.specs.Back.{BackV2, request-again-v2, request-again-v1}
 
 -- a typed request; with V2 the list beside it
@@ -29,10 +28,6 @@ abbrev pub ReadAs : ℕ → Typed → List ℕ → Type 0
 ReadAs address (inV1 r) s = requestOf s ≡ V1 address r
 ReadAs address (inV2 r q) s = BackV2 address r (listOf q) s
 
-abbrev pub SizedRequest : Typed → Type 0
-SizedRequest (inV1 r) = Unit {0}
-SizedRequest (inV2 r q) = Sized r
-
-pub request-again : (room address : ℕ) (t : Typed) → SizedRequest t → written room address t .number ≡ 0 → ReadAs address t (written room address t .reply)
-request-again room address (inV1 r) sized accepted = request-again-v1 room address r accepted
-request-again room address (inV2 r q) sized accepted = request-again-v2 room address r q sized accepted
+pub request-again : (room address : ℕ) (t : Typed) → written room address t .number ≡ 0 → ReadAs address t (written room address t .reply)
+request-again room address (inV1 r) accepted = request-again-v1 room address r accepted
+request-again room address (inV2 r q) accepted = request-again-v2 room address r q accepted

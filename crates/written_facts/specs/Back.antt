@@ -44,7 +44,7 @@ use Rattle.request_writer.specs.Typed.{typedVerdict, formedV2, formedV1}
 use Rattle.request_writer.specs.Written.{sentV2, requestWrittenV2, requestWrittenV1}
 use Rattle.request_reader.specs.Decoded.{fromV2, judgedV1, fromV1, fromFrame, requestOf, listFrom, requestList}
 use Rattle.request_reader.specs.declared.Request.the-variants.{V1, V2}
-use Rattle.written_facts.specs.Same.{SameV2, SameSetting, SameList, Sized}
+use Rattle.written_facts.specs.Same.{SameV2, SameSetting, SameList}
 use Rattle.written_facts.specs.Lemmas.Typed.{ListFits, Told, told}
 use Rattle.written_facts.specs.Lemmas.Asked.{read-asked, restore-asked, set-asked, list-asked, Written, asked-v1}
 
@@ -112,20 +112,20 @@ module _ (address : ℕ) (a : within 1 999 address ≡ true) (list : List ℕ) w
   unfolding sentV2
   read-formed c z = record { again = Read c; whole = refl; sendable = a; fits = tt; asks = read-asked address c list; same = refl }
 
-sent-formed : (address : ℕ) → within 1 999 address ≡ true → (r : RequestV2) (q : Sources) → Sized r → Formed address (listOf q) r (sentV2 address (formedV2 r q) (listOf q))
+sent-formed : (address : ℕ) → within 1 999 address ≡ true → (r : RequestV2) (q : Sources) → Formed address (listOf q) r (sentV2 address (formedV2 r q) (listOf q))
 unfolding formedV2
-sent-formed address a (Read c) q h = read-formed address a (listOf q) c
-sent-formed address a (Restore c) q h = restore-formed address a (listOf q) c
-sent-formed address a (Set x) q h = set-formed address a (listOf q) x (typedVerdict x q) (told x q h)
+sent-formed address a (Read c) q = read-formed address a (listOf q) c
+sent-formed address a (Restore c) q = restore-formed address a (listOf q) c
+sent-formed address a (Set x) q = set-formed address a (listOf q) x (typedVerdict x q) (told x q)
 
 -- what the writer wrote, where it answered 0
-pub formed : (room address : ℕ) (r : RequestV2) (q : Sources) → Sized r → requestWrittenV2 room address r q .number ≡ 0
+pub formed : (room address : ℕ) (r : RequestV2) (q : Sources) → requestWrittenV2 room address r q .number ≡ 0
     → FormedV2 address r (listOf q) (requestWrittenV2 room address r q .reply)
 unfolding requestWrittenV2
-formed room address r q h =
+formed room address r q =
     each (Formed address (listOf q) r) (ltb room 109) (silent 1) _ (λ _ z. absurd (omega arith))
     (λ _. each (Formed address (listOf q) r) (not (within 1 999 address)) (silent 4) _ (λ _ z. absurd (omega arith))
-    (λ a. sent-formed address (not-false _ a) r q h))
+    (λ a. sent-formed address (not-false _ a) r q))
 
 -- bytes that are read as the request r at this address, with this list
 pub record BackV2 (address : ℕ) (r : RequestV2) (list s : List ℕ) : Type 0 where
@@ -172,10 +172,10 @@ module _ {address : ℕ} {r : RequestV2} {list s : List ℕ} (f : FormedV2 addre
 
 -- for every typed request that the writer accepts, reading what it wrote gives the same request, with the same address and, for a write of SM,
 -- the same list
-pub request-again-v2 : (room address : ℕ) (r : RequestV2) (q : Sources) → Sized r → requestWrittenV2 room address r q .number ≡ 0
+pub request-again-v2 : (room address : ℕ) (r : RequestV2) (q : Sources) → requestWrittenV2 room address r q .number ≡ 0
     → BackV2 address r (listOf q) (requestWrittenV2 room address r q .reply)
-request-again-v2 room address r q h z =
-    let f = formed room address r q h z in
+request-again-v2 room address r q z =
+    let f = formed room address r q z in
     record { again = f .again; read = read-again f; same = f .same; listed = listed f r (f .same) }
 
 -- ---- V1

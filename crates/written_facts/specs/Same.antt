@@ -61,23 +61,3 @@ SameList (Set (Filament v)) a b = Unit {0}
 SameList (Set (Switch v)) a b = Unit {0}
 SameList (Read c) a b = Unit {0}
 SameList (Restore c) a b = Unit {0}
-
--- the numbers of ST are machine numbers, as they are in every call
-abbrev pub SizedTransition : Transition → Type 0
-SizedTransition (Direct n) = n .mantissa < 2 ^ 32
-SizedTransition (Between a b) = (a .mantissa < 2 ^ 32) × (b .mantissa < 2 ^ 32)
-
-abbrev pub SizedSetting : Setting → Type 0
-SizedSetting (Switch t) = SizedTransition t
-SizedSetting (Address v) = Unit {0}
-SizedSetting (PressureIn v) = Unit {0}
-SizedSetting (Factor v) = Unit {0}
-SizedSetting (Control v) = Unit {0}
-SizedSetting (Cathode v) = Unit {0}
-SizedSetting (Filament v) = Unit {0}
-SizedSetting (Stream v) = Unit {0}
-
-abbrev pub Sized : RequestV2 → Type 0
-Sized (Read c) = Unit {0}
-Sized (Restore c) = Unit {0}
-Sized (Set x) = SizedSetting x

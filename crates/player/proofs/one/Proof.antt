@@ -67,19 +67,12 @@ returns-4 c =
     line-one (x .script .now) (x .memory .now) (x .g) (x .at) (x .used) _ _ _ (k .1 .1) (k .0) (omega (arith, c .before .before .before .before .if2 .left)) (c .before .before .show .ensures)
 
 -- bench settings
-tell-requires : tie.Need-tell-requires
-tell-requires c κs =
-    let m = c .before in
-    let x = m .before .before .before .before .before .args in
-    let k = read (Fits (length (x .script .now)) (x .at)) _ (m .before .before .call-at .ensures) (m .b .given .1) in
-    k .1 .0
-
 returns-5 : tie.Need-returns-5
 returns-5 c =
     let m = c .before .before in
     let x = m .before .before .before .before .before .args in
     let k = read (Fits (length (x .script .now)) (x .at)) _ (m .before .before .call-at .ensures) (m .b .given .1) in
-    setting-one (x .script .now) (x .memory .now) (x .g) (x .at) (x .used) _ _ (k .1 .1) (k .0) (omega arith) (c .tell .ensures)
+    setting-one (x .script .now) (x .memory .now) (x .g) (x .at) (x .used) _ _ (k .1) (k .0) (omega arith) (c .tell .ensures)
 
 returns-6 : tie.Need-returns-6
 returns-6 c =
@@ -125,7 +118,7 @@ one-spec =
     show-requires
     (λ c. search needs)
     (λ c. search needs)
-    tell-requires
+    (λ c κs. search needs)
     (λ c. search needs)
     (λ c. search needs)
     (λ c κs. search needs)

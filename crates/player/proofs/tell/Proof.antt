@@ -8,7 +8,7 @@ use Rattle.player.proofs.tell.Tie as tie
 returns : tie.Need-returns
 returns c =
     told-made (c .made .ensures)
-    (λ h t. record { of-text-gauge = sequence.tell (t .of-text-gauge) (c .before .before .before .before .before .pre) (c .before .before .set-bench .ensures .0); of-opg-gauge = t .of-opg-gauge })
+    (λ h t. record { of-text-gauge = sequence.tell (t .of-text-gauge) (c .before .before .set-bench .ensures .0); of-opg-gauge = t .of-opg-gauge })
 
 pub tell-spec : {M : Type 1} → statement M
 tell-spec = tie.close (tie.spec (λ c κs. search needs) (λ c κs. search needs) returns)

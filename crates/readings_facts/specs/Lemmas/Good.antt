@@ -2,13 +2,13 @@
 use mathlib.Core.Path.{_≡_, refl, sym, ap, _∙_}
 use mathlib.Core.Bool.{Bool, true, false, cond, not}
 use mathlib.Core.Logic.{inl, inr}
-use Prim.Native.Nat.{ℕ, _*_, _/_, _%_, _^_, _<_, _≤_}
+use Prim.Native.Nat.{ℕ, _<_, _≤_}
 use native.Mathlib.Omega.{arith}
 use borrow.Author.Tests.{ltb-false, leb-false, eqb-true, not-false}
 use lib.Dec.{eqb, ltb, leb}
 use Rattle.buffer.proofs.Rules.{each}
 use Rattle.decimal.specs.Exact.{units, zeroNumber, normalOf}
-use Rattle.decimal.specs.Number.{belowOf, countedOf, hundredthsOf}
+use Rattle.decimal.specs.Number.{belowOf, hundredthsOf}
 use Rattle.decimal.specs.declared.Number.{Number}
 use Rattle.decimal.specs.declared.Parsed.{Parsed}
 use Rattle.decimal.specs.declared.Parsed.the-variants.{Value, Syntax, Range}
@@ -16,7 +16,7 @@ use Rattle.decimal.specs.declared.Hundredths.{Hundredths}
 use Rattle.decimal.specs.declared.Hundredths.the-variants.{Whole, Other}
 use Rattle.decimal.proofs.Sizes.{units-pos}
 use Rattle.decimal_facts.specs.Canonical.{Canonical}
-use Rattle.decimal_facts.specs.Value.{exact}
+use Rattle.decimal_facts.specs.Value.{exact, hundredths-exactly}
 use Rattle.readings.specs.Bench.{takes, pressureAt, temperatureAt, pressureOf, degreesOf, temperatureOf, benchOf}
 use Rattle.readings.specs.declared.Pressure.{Pressure}
 use Rattle.readings.specs.declared.Pressure.the-variants.{Measured, Under, Over, Faulty}
@@ -27,7 +27,7 @@ use Rattle.readings.specs.declared.Bench.{Bench}
 use Rattle.readings.specs.declared.Bench.the-variants.{Reads, BelowRange, AboveRange, Fault, Status}
 use Rattle.readings.specs.declared.Benched.{Benched}
 use Rattle.readings.specs.declared.Benched.the-variants.{Accepted, Refused}
-use Rattle.readings_facts.specs.Sound.{SoundPressure, SoundSeven, SoundTemperature, SoundReading, Machine}
+use Rattle.readings_facts.specs.Sound.{SoundPressure, SoundSeven, SoundTemperature, SoundReading}
 
 -- an answer that accepts what is sound only
 abbrev pub Good : Benched → Type 0
@@ -73,17 +73,6 @@ negative-some n (inl e) h = absurd (let z : _≡_ {A = ℕ} 0 1 = ap (λ (b : Bo
 negative-some n (inr f) h = units-pos (n .mantissa) (n .place) (omega (arith, f .low))
 
 -- and so has its count of hundredths
-abbrev pub Counted : Number → Hundredths → Type 0
-Counted n (Whole h) = units n ≡ h * 10 ^ 12
-Counted n Other = Unit {0}
-
-pub counted : (n : Number) → Counted n (hundredthsOf n)
-unfolding hundredthsOf countedOf
-counted n =
-    each (Counted n) (not (eqb (units n % 10 ^ 12) 0)) Other _ (λ _. tt)
-    (λ e. each (Counted n) (leb 100000 (units n / 10 ^ 12)) Other (Whole (units n / 10 ^ 12)) (λ _. tt)
-    (λ _. let z = eqb-true (units n % 10 ^ 12) 0 (not-false _ e) in omega arith))
-
 in-limits : (negative : Bool) (h : ℕ) → (negative ≡ true → 1 ≤ h) → h ≤ cond negative 4000 12500 → SoundTemperature (Degrees negative h)
 in-limits true h f k = (f refl, k)
 in-limits false h f k = omega arith
@@ -100,19 +89,19 @@ unfolding temperatureOf
 celsius-good code (Value n) f = degrees-good code (n .negative) (hundredthsOf n) some
   where
     some : (k : ℕ) → hundredthsOf n ≡ Whole k → n .negative ≡ true → 1 ≤ k
-    some k e h = let u : units n ≡ k * 10 ^ 12 = rw e at (counted n) in omega (arith, u, negative-some n (f n refl) h)
+    some k e h = omega (arith, hundredths-exactly n k .0 e .0, negative-some n (f n refl) h)
 celsius-good code Syntax f = tt
 celsius-good code Range f = tt
 
-pub bench-good : (b : Bench) → Machine b → Good (benchOf b)
+pub bench-good : (b : Bench) → Good (benchOf b)
 unfolding benchOf
-bench-good (Reads code x) m =
+bench-good (Reads code x) =
     each Good (leb 8 code) (temperatureOf code (normalOf x)) (pressureOf code (normalOf x))
     (λ _. celsius-good code (normalOf x) canonical) (λ _. number-good code (normalOf x) canonical)
   where
     canonical : (n : Number) → normalOf x ≡ Value n → Canonical n
-    canonical n e = exact x n (omega (arith, m)) .0 e .canonical
-bench-good (BelowRange code) m = pressure-good code Under (λ _. tt) tt
-bench-good (AboveRange code) m = pressure-good code Over (λ _. tt) tt
-bench-good (Fault code) m = each Good (leb 8 code) (temperatureAt code Failed) (pressureAt code Faulty) (λ _. temperature-good code Failed tt) (λ _. pressure-good code Faulty (λ _. tt) tt)
-bench-good (Status v) m = each Good (leb 4 v) Refused (Accepted (FS v)) (λ _. tt) (λ e. let k = leb-false 4 v e in omega arith)
+    canonical n e = exact x n .0 e .canonical
+bench-good (BelowRange code) = pressure-good code Under (λ _. tt) tt
+bench-good (AboveRange code) = pressure-good code Over (λ _. tt) tt
+bench-good (Fault code) = each Good (leb 8 code) (temperatureAt code Failed) (pressureAt code Faulty) (λ _. temperature-good code Failed tt) (λ _. pressure-good code Faulty (λ _. tt) tt)
+bench-good (Status v) = each Good (leb 4 v) Refused (Accepted (FS v)) (λ _. tt) (λ e. let k = leb-false 4 v e in omega arith)

@@ -19,7 +19,7 @@ use Rattle.decimal.specs.declared.Hundredths as counts
 use Rattle.decimal.specs.declared.Hundredths.the-variants.{Whole, Other}
 use Rattle.decimal.proofs.Sizes.{ten-pos, units-pos}
 use Rattle.decimal_facts.specs.Canonical.{Canonical, Exactly}
-use Rattle.decimal_facts.specs.Value.{answers, exact}
+use Rattle.decimal_facts.specs.Value.{answers, exact, hundredths-exactly}
 use Rattle.decimal_facts.specs.Lemmas.Rows.{canonical-same}
 use Rattle.decimal_facts.specs.Lemmas.Texts.{decimals-count}
 use Rattle.readings.specs.Bench.{takes, pressureAt, temperatureAt, pressureOf, degreesOf, temperatureOf, benchOf}
@@ -40,12 +40,8 @@ use Rattle.readings.specs.declared.Benched.{Benched}
 use Rattle.readings.specs.declared.Benched.the-variants.{Accepted, Refused}
 use Rattle.readings_facts.specs.Handed.{Hundredths, HandedPressure, value, under, over, faulty, HandedTemperature, degrees, failed, Handed}
 use Rattle.readings_facts.specs.Places.{get-put}
-use Rattle.readings_facts.specs.Sound.{SoundPressure, SoundTemperature, SoundReading, Machine}
-use Rattle.readings_facts.specs.Lemmas.Good.{counted, negative-some}
-
--- the number that is answered for a value, exactly
-number-exactly : (code : ℕ) (x : Exact) (n : Number) → Machine (Reads code x) → (normalOf x ≡ Value n → Exactly x n) × (Exactly x n → normalOf x ≡ Value n)
-number-exactly code x n m = exact x n (omega (arith, m))
+use Rattle.readings_facts.specs.Sound.{SoundPressure, SoundTemperature, SoundReading}
+use Rattle.readings_facts.specs.Lemmas.Good.{negative-some}
 
 -- what is zero has no sign
 zero-plus : (n : Number) → Canonical n → units n ≡ 0 → n .negative ≡ false
@@ -96,7 +92,7 @@ module _ (code : ℕ) (x : Exact) where
   -- a number's hundredths are the value's
   hundredths-too : (n : Number) (h : ℕ) → Exactly x n → hundredthsOf n ≡ Whole h → Hundredths x (n .negative) h
   hundredths-too n h f e =
-      let u : units n ≡ h * 10 ^ 12 = rw e at (counted n) in
+      let u : units n ≡ h * 10 ^ 12 = hundredths-exactly n h .0 e .0 in
       let s : h * 10 ^ 12 * 10 ^ x .down ≡ x .digits * 10 ^ x .up * 10 ^ 14 = rw u at (f .size) in
       record {
         size = omega arith;
@@ -116,32 +112,32 @@ module _ (code : ℕ) (x : Exact) where
   celsius-over Syntax f = tt
   celsius-over Range f = tt
 
-all-over : (b : Bench) → Machine b → Overs b (benchOf b)
+all-over : (b : Bench) → Overs b (benchOf b)
 unfolding benchOf
-all-over (Reads code x) m =
+all-over (Reads code x) =
     each (Overs (Reads code x)) _ _ _
-    (λ _. celsius-over code x (normalOf x) (λ n. number-exactly code x n m .0)) (λ _. number-over code x (normalOf x) (λ n. number-exactly code x n m .0))
-all-over (BelowRange code) m = pressure-over (BelowRange code) code _ under
-all-over (AboveRange code) m = pressure-over (AboveRange code) code _ over
-all-over (Fault code) m =
+    (λ _. celsius-over code x (normalOf x) (λ n. exact x n .0)) (λ _. number-over code x (normalOf x) (λ n. exact x n .0))
+all-over (BelowRange code) = pressure-over (BelowRange code) code _ under
+all-over (AboveRange code) = pressure-over (AboveRange code) code _ over
+all-over (Fault code) =
     each (Overs (Fault code)) _ _ _ (λ _. temperature-over (Fault code) code _ failed) (λ _. pressure-over (Fault code) code _ faulty)
-all-over (Status v) m = each (Overs (Status v)) _ _ _ (λ _. tt) (λ _. refl)
+all-over (Status v) = each (Overs (Status v)) _ _ _ (λ _. tt) (λ _. refl)
 
-pub handed-over : (b : Bench) (x : Reading) → Machine b → benchOf b ≡ Accepted x → Handed b x
-handed-over b x m e = rw e at (all-over b m)
+pub handed-over : (b : Bench) (x : Reading) → benchOf b ≡ Accepted x → Handed b x
+handed-over b x e = rw e at (all-over b)
 
 -- ---- what is handed over, and allowed, is accepted
 
 -- at a pressure source
-pressure-back : {b : Bench} {p : Pressure} (code : ℕ) (x : Reading) → Machine b → some code ≡ names b → leb 8 code ≡ false → ((n : Number) → p ≡ Measured n → takes code n ≡ true)
+pressure-back : {b : Bench} {p : Pressure} (code : ℕ) (x : Reading) → some code ≡ names b → leb 8 code ≡ false → ((n : Number) → p ≡ Measured n → takes code n ≡ true)
     → pressureAt code p ≡ Accepted x → HandedPressure b p → benchOf b ≡ Accepted x
 unfolding benchOf names pressureOf pick
-pressure-back code x m e l t a (value {code = c} {x = y} {n = n} f) =
+pressure-back code x e l t a (value {code = c} {x = y} {n = n} f) =
     let k : code ≡ c = cc in
-    rw (← k, l, number-exactly c y n m .1 f, t n refl) a
-pressure-back code x m e l t a (under {code = c}) = let k : code ≡ c = cc in rw (← k) a
-pressure-back code x m e l t a (over {code = c}) = let k : code ≡ c = cc in rw (← k) a
-pressure-back code x m e l t a (faulty {code = c}) = let k : code ≡ c = cc in rw (← k, l) a
+    rw (← k, l, exact y n .1 f, t n refl) a
+pressure-back code x e l t a (under {code = c}) = let k : code ≡ c = cc in rw (← k) a
+pressure-back code x e l t a (over {code = c}) = let k : code ≡ c = cc in rw (← k) a
+pressure-back code x e l t a (faulty {code = c}) = let k : code ≡ c = cc in rw (← k, l) a
 
 -- and where there are digits the size is not zero
 some-size : (h d u k : ℕ) → 0 < d → h * 10 ^ k ≡ d * 10 ^ u * 100 → 0 < h
@@ -152,9 +148,8 @@ hundredths-number : (x : Exact) (negative : Bool) (h : ℕ) → h < 100000 → H
     → (n : Number) × Exactly x n × (hundredthsOf n ≡ Whole h) × (n .negative ≡ negative)
 hundredths-number x negative h k f =
     let y : Exact = record { negative = cond (eqb h 0) false (x .negative); digits = h; up = 0; down = 2 } in
-    let l : h < 10 ^ 10 = omega arith in
-    let w = decimals-count (x .negative) h (normalOf y) k (answers y l) in
-    let g = exact y (w .0) l .0 (w .1) in
+    let w = decimals-count (x .negative) h (normalOf y) k (answers y) in
+    let g = exact y (w .0) .0 (w .1) in
     let u : units (w .0) ≡ h * 10 ^ 12 = omega (arith, g .size) in (
       w .0,
       record {
@@ -178,15 +173,15 @@ at-most true = omega arith
 at-most false = omega arith
 
 -- at a temperature source
-temperature-back : {b : Bench} {t : Temperature} (code : ℕ) (x : Reading) → Machine b → some code ≡ names b → leb 8 code ≡ true → SoundTemperature t
+temperature-back : {b : Bench} {t : Temperature} (code : ℕ) (x : Reading) → some code ≡ names b → leb 8 code ≡ true → SoundTemperature t
     → temperatureAt code t ≡ Accepted x → HandedTemperature b t → benchOf b ≡ Accepted x
 unfolding benchOf names temperatureOf degreesOf pick
-temperature-back code x m e l s a (degrees {code = c} {x = y} {negative = negative} {h = h} f) =
+temperature-back code x e l s a (degrees {code = c} {x = y} {negative = negative} {h = h} f) =
     let k : code ≡ c = cc in
     let i = within-limit negative h s in
     let w = hundredths-number y negative h (omega (arith, at-most negative)) f in
-    rw (← k, l, number-exactly c y (w .0) m .1 (w .1), w .2, w .3, le-ltb (cond negative 4000 12500) h i) a
-temperature-back code x m e l s a (failed {code = c}) = let k : code ≡ c = cc in rw (← k, l) a
+    rw (← k, l, exact y (w .0) .1 (w .1), w .2, w .3, le-ltb (cond negative 4000 12500) h i) a
+temperature-back code x e l s a (failed {code = c}) = let k : code ≡ c = cc in rw (← k, l) a
 
 or-true : (b : Bool) → (b || true) ≡ true
 or-true true = refl
@@ -199,16 +194,16 @@ taken code Under s n e = absurd (let z : _≡_ {A = ℕ} 0 1 = cc in omega arith
 taken code Over s n e = absurd (let z : _≡_ {A = ℕ} 0 1 = cc in omega arith)
 taken code Faulty s n e = absurd (let z : _≡_ {A = ℕ} 0 1 = cc in omega arith)
 
-pub handed-back : (b : Bench) (x : Reading) → Machine b → names b ≡ codeOf (placeOf x) → Handed b x → SoundReading x → benchOf b ≡ Accepted x
+pub handed-back : (b : Bench) (x : Reading) → names b ≡ codeOf (placeOf x) → Handed b x → SoundReading x → benchOf b ≡ Accepted x
 unfolding codeOf placeOf pressureAt temperatureAt benchOf takes pick
-handed-back b (P0 p) m e f s = pressure-back 0 (P0 p) m (sym e) refl (taken 0 p s) refl f
-handed-back b (P1 p) m e f s = pressure-back 1 (P1 p) m (sym e) refl (taken 1 p s) refl f
-handed-back b (P2 p) m e f s = pressure-back 2 (P2 p) m (sym e) refl (taken 2 p s) refl f
-handed-back b (P6 p) m e f s = pressure-back 6 (P6 p) m (sym e) refl (taken 6 p s) refl f
-handed-back b (P7 p) m e f s = pressure-back 7 (P7 p) m (sym e) refl (λ n _. refl) refl f
-handed-back b (T2 t) m e f s = temperature-back 8 (T2 t) m (sym e) refl s refl f
-handed-back b (T6 t) m e f s = temperature-back 9 (T6 t) m (sym e) refl s refl f
-handed-back b (FS v) m e f s = rw (f, lt-leb 4 v (omega arith))
+handed-back b (P0 p) e f s = pressure-back 0 (P0 p) (sym e) refl (taken 0 p s) refl f
+handed-back b (P1 p) e f s = pressure-back 1 (P1 p) (sym e) refl (taken 1 p s) refl f
+handed-back b (P2 p) e f s = pressure-back 2 (P2 p) (sym e) refl (taken 2 p s) refl f
+handed-back b (P6 p) e f s = pressure-back 6 (P6 p) (sym e) refl (taken 6 p s) refl f
+handed-back b (P7 p) e f s = pressure-back 7 (P7 p) (sym e) refl (λ n _. refl) refl f
+handed-back b (T2 t) e f s = temperature-back 8 (T2 t) (sym e) refl s refl f
+handed-back b (T6 t) e f s = temperature-back 9 (T6 t) (sym e) refl s refl f
+handed-back b (FS v) e f s = rw (f, lt-leb 4 v (omega arith))
 
 -- ---- what is handed over fixes the reading
 

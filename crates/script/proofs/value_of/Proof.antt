@@ -16,4 +16,4 @@ value-of-spec =
     (λ c κs. search needs)
     (λ c. search needs)
     (λ c. search needs)
-    (λ c. (value-with _ _ (c .before .before .word .ensures .0), c .before .before .word .ensures .1)))
+    (λ c. value-with _ _ (c .before .before .word .ensures .0)))

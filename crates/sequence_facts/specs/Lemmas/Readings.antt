@@ -16,7 +16,6 @@ use Rattle.readings.specs.declared.Benched.the-variants.{Accepted}
 use Rattle.readings_facts.specs.Accepts.{bench-exactly}
 use Rattle.readings_facts.specs.Handed.{Handed}
 use Rattle.readings_facts.specs.Places.{get-put, get-other, code-one}
-use Rattle.readings_facts.specs.Sound.{Machine}
 use Rattle.gauge_table.specs.DecidedV2.{by}
 use Rattle.history.specs.Latest.{orElse}
 use Rattle.sequence_facts.specs.Sequence.{sameCode, Origin, handed, Stands}
@@ -35,12 +34,12 @@ code-same none (some b) e = cc
 code-same (some a) none e = cc
 code-same (some a) (some b) e = eq-eqb a b (cc)
 
-module _ (p : Place) (o : Origin) (r : Readings) (b : Bench) (x : Reading) (m : Machine b) (e : benchOf b ≡ Accepted x) where
+module _ (p : Place) (o : Origin) (r : Readings) (b : Bench) (x : Reading) (e : benchOf b ≡ Accepted x) where
   there : names b ≡ codeOf (placeOf x)
-  there = bench-exactly b x m .0 e .there
+  there = bench-exactly b x .0 e .there
 
   named : names b ≡ codeOf p → Handed b (readingAt p (putReading r x))
-  named c = rw (code-one p (placeOf x) (sym c ∙ there), get-put r x) (bench-exactly b x m .0 e .handed)
+  named c = rw (code-one p (placeOf x) (sym c ∙ there), get-put r x) (bench-exactly b x .0 e .handed)
 
   unnamed : sameCode (names b) (codeOf p) ≡ false → readingAt p (putReading r x) ≡ readingAt p r
   unnamed c = get-other r x p (λ (q : p ≡ placeOf x). true≢false (sym (code-same (names b) (codeOf p) (there ∙ ap codeOf (sym q))) ∙ c))

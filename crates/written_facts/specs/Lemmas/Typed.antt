@@ -38,7 +38,7 @@ use Rattle.forms.specs.declared.Verdict.the-variants.{Set, Refused}
 use Rattle.forms_facts.specs.Codes.{Short}
 use Rattle.forms_facts.specs.Sound.{InLimits, Sound}
 use Rattle.request_writer.specs.Typed.{exactly, limitedNumber, endsIn, typedDigit, judgedDigit, typedAddress, typedStream, typedVerdict}
-use Rattle.written_facts.specs.Same.{SameNumber, SameSetting, SizedTransition, SizedSetting}
+use Rattle.written_facts.specs.Same.{SameNumber, SameSetting}
 
 -- the list beside SM's mode: seven known sources at most, and none with mode 0
 abbrev pub ListFits : Setting → List ℕ → Type 0
@@ -96,15 +96,15 @@ abbrev Passed : Number → Limited → Type 0
 Passed n (Fine m) = InLimits m × SameNumber n m
 Passed n (Bad k) = 10 ≤ k
 
-passed : (n : Number) → n .mantissa < 2 ^ 32 → Passed n (limitedNumber n)
+passed : (n : Number) → Passed n (limitedNumber n)
 unfolding limitedNumber limitedOf
-passed n h = go (normalOf (exactly n)) refl
+passed n = go (normalOf (exactly n)) refl
   where
     go : (p : Parsed) → normalOf (exactly n) ≡ p → Passed n (limitedOf p)
     go Syntax e = omega arith
     go Range e = omega arith
     go (Value m) e =
-        let x = exact (exactly n) m (omega arith) .0 e in
+        let x = exact (exactly n) m .0 e in
         each (Passed n) (belowOf m (standard .transitionLow)) (Bad 11) _ (λ _. omega arith)
         (λ l. each (Passed n) (belowOf (standard .transitionHigh) m) (Bad 11) (Fine m) (λ _. omega arith)
         (λ u. (record { canonical = x .canonical; low = l; high = u }, same-number n m x)))
@@ -133,10 +133,10 @@ module _ (list : List ℕ) where
   between-told a b (Bad j) (Fine d) h l = h
   between-told a b (Bad j) (Bad k) h l = omega arith
 
-  transition-told : (t : Transition) → SizedTransition t → Told (Switch t) list (transitionOf (endsIn t))
+  transition-told : (t : Transition) → Told (Switch t) list (transitionOf (endsIn t))
   unfolding transitionOf endsIn
-  transition-told (Direct n) h = direct-told n (limitedNumber n) (passed n h)
-  transition-told (Between a b) h = between-told a b (limitedNumber a) (limitedNumber b) (passed a (h .0)) (passed b (h .1))
+  transition-told (Direct n) = direct-told n (limitedNumber n) (passed n)
+  transition-told (Between a b) = between-told a b (limitedNumber a) (limitedNumber b) (passed a) (passed b)
 
   -- one digit, over the largest
   digit-told : (x : Setting) (most d : ℕ) → (d ≤ most → Told x list (Set x)) → Told x list (judgedDigit x (typedDigit most d))
@@ -169,13 +169,13 @@ stream-told on q =
     none true e f = absurd (true≢false f)
     none false e f = nothing q (eqb-true (q .count) 0 (not-false _ e))
 
-pub told : (x : Setting) (q : Sources) → SizedSetting x → Told x (listOf q) (typedVerdict x q)
+pub told : (x : Setting) (q : Sources) → Told x (listOf q) (typedVerdict x q)
 unfolding typedVerdict
-told (Address a) q h = address-told (listOf q) a
-told (PressureIn u) q h = (tt, refl, tt)
-told (Factor v) q h = factor-told (listOf q) v
-told (Control d) q h = digit-told (listOf q) (Control d) (standard .controlHigh) d (λ l. (l, refl, tt))
-told (Cathode d) q h = digit-told (listOf q) (Cathode d) (standard .cathodeHigh) d (λ l. (l, refl, tt))
-told (Filament d) q h = digit-told (listOf q) (Filament d) (standard .filamentHigh) d (λ l. (l, refl, tt))
-told (Switch t) q h = transition-told (listOf q) t h
-told (Stream on) q h = stream-told on q
+told (Address a) q = address-told (listOf q) a
+told (PressureIn u) q = (tt, refl, tt)
+told (Factor v) q = factor-told (listOf q) v
+told (Control d) q = digit-told (listOf q) (Control d) (standard .controlHigh) d (λ l. (l, refl, tt))
+told (Cathode d) q = digit-told (listOf q) (Cathode d) (standard .cathodeHigh) d (λ l. (l, refl, tt))
+told (Filament d) q = digit-told (listOf q) (Filament d) (standard .filamentHigh) d (λ l. (l, refl, tt))
+told (Switch t) q = transition-told (listOf q) t
+told (Stream on) q = stream-told on q

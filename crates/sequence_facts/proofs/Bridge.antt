@@ -1,5 +1,6 @@
 -- A step of `Trace` is the contract of the function as the prover reads it off the source (`Learnt`), and nothing else: the proofs are the
--- constructors themselves. None of the four functions has a `requires` (`Asked`). a is the arguments, r the result, x the parameters at exit.
+-- constructors themselves. (A second clause of a contract is on the count of a list, and no step needs it.) None of the four functions has a
+-- `requires` (`Asked`). a is the arguments, r the result, x the parameters at exit.
 -- Assumes nothing.
 use mathlib.Core.List.{[], _∷_}
 use contract.Lifetimes.{Lfts}
@@ -18,17 +19,17 @@ use Rattle.text_gauge.proofs.stream_line.Reads as stream-line-reads
 
 pub begin-step : (κs : Lfts 0) (a : Dens κs at-start-kinds.ps) (r : resT at-start-kinds.r κs .Denot) (x : AtExit (endedOf 0 at-start-kinds.ps at-start-kinds.r) κs)
     → at-start-reads.Learnt κs a r x → Trace [] r
-begin-step κs a r x contract = begin contract
+begin-step κs a r x contract = begin (contract .0)
 
 pub ask-step : {h : History} (κs : Lfts 2) (a : Dens κs answer-kinds.ps) (r : resT answer-kinds.r κs .Denot)
     (x : AtExit (endedOf 2 answer-kinds.ps answer-kinds.r) κs) → Trace h (a .0) → answer-reads.Learnt κs a r x
     → Trace (asked (now (a .1 .0)) (now (a .1 .1 .0)) (r .written .number) (r .written .len) (now (x .1 .1 .0)) ∷ h) (r .gauge)
-ask-step κs a r x t contract = ask t contract
+ask-step κs a r x t contract = ask t (contract .0)
 
 pub tell-step : {h : History} (κs : Lfts 0) (a : Dens κs set-bench-kinds.ps) (r : resT set-bench-kinds.r κs .Denot)
     (x : AtExit (endedOf 0 set-bench-kinds.ps set-bench-kinds.r) κs) → Trace h (a .0) → set-bench-reads.Learnt κs a r x
     → Trace (set (a .1 .0) (r .number) ∷ h) (r .gauge)
-tell-step κs a r x t contract = tell t contract
+tell-step κs a r x t contract = tell t (contract .0)
 
 pub show-step : {h : History} (κs : Lfts 1) (a : Dens κs stream-line-kinds.ps) (r : resT stream-line-kinds.r κs .Denot)
     (x : AtExit (endedOf 1 stream-line-kinds.ps stream-line-kinds.r) κs) → Trace h (a .0) → stream-line-reads.Learnt κs a r x

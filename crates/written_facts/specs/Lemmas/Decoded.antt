@@ -121,14 +121,10 @@ asked-good h s = both (not (isAccess (h .access))) (Refused 7) _ [] _ (λ _. tt)
 
 -- ---- the writer forms it as it is
 
-few-digits : (n : Number) → Canonical n → n .mantissa < 10 ^ 10
-few-digits n (inl e) = rw e (omega arith)
-few-digits n (inr f) = omega (arith, f .high)
-
 number-as : (n : Number) → InLimits n → limitedNumber n ≡ Fine n
 unfolding limitedNumber limitedOf units pick
 number-as n h =
-    let e : normalOf (exactly n) ≡ Value n = exact (exactly n) n (few-digits n (h .canonical)) .1 (record { canonical = h .canonical; size = refl; sign = λ _. refl }) in
+    let e : normalOf (exactly n) ≡ Value n = exact (exactly n) n .1 (record { canonical = h .canonical; size = refl; sign = λ _. refl }) in
     rw (e, h .low, h .high)
 
 switch-as : (t : Transition) → Sound (Switch t) → transitionOf (endsIn t) ≡ verdict.Set (Switch t)

@@ -14,6 +14,7 @@ use Rattle.frames.specs.declared.HeadV1.{HeadV1}
 use Rattle.frames.specs.declared.HeadV2.{HeadV2}
 use Rattle.frames.specs.declared.Frame.{Frame}
 use Rattle.frames.specs.declared.Frame.the-variants as frame
+use Rattle.frames_facts.specs.Shape.{Tells, tells}
 use Rattle.settings.specs.Limits.{standard}
 use Rattle.requests.specs.AskV1.{askV1}
 use Rattle.requests.specs.AskV2.{askV2}
@@ -32,7 +33,7 @@ use Rattle.gauge_table.specs.Asked.{askedV2, askedV1, breaksRule, asksFaulty}
 use Rattle.gauge_table.specs.Table.{answerRoom, otherAddress, numberOf}
 use Rattle.gauge_table.specs.DecidedV2.{decidedV2, by}
 use Rattle.gauge_table.specs.DecidedV1.{decidedV1}
-use Rattle.gauge_table.specs.Numbers.{Framed, Tells, tells, number-6, number-v1, number-v2}
+use Rattle.gauge_table.specs.Numbers.{Numbered, numbered, number-6, number-v1, number-v2}
 
 -- ---- what a frame asks
 
@@ -92,21 +93,21 @@ module _ (g : State) where
 
 -- bytes sent to a gauge of their address, with room for its answer
 module _ (g : State) (room : ℕ) (s : List ℕ) (r : ltb room answerRoom ≡ false) (o : otherAddress g s ≡ false) where
-  by-frame : (f : Frame) → Tells s f → eqb (requestNumber (fromFrame s f)) 0 ≡ false → Refuses g (requestNumber (fromFrame s f)) (numberOf g room s)
+  by-frame : (f : Frame) → Tells s f → Numbered s f → eqb (requestNumber (fromFrame s f)) 0 ≡ false → Refuses g (requestNumber (fromFrame s f)) (numberOf g room s)
   unfolding fromFrame requestNumber headV1
-  by-frame (frame.Silent k) t e = inl (t .1 g room r)
-  by-frame (frame.Length h) t e = inl (number-6 s g room r (t .0) o (t .1) (t .2))
-  by-frame (frame.V1 h) t e =
+  by-frame (frame.Silent k) t n e = inl (n .1 g room r)
+  by-frame (frame.Length h) t n e = inl (number-6 s g room r (t .0) o (t .1) (t .2))
+  by-frame (frame.V1 h) t n e =
       let q : askV1 (h .letter) (dataFrom 4 s) ≡ askedV1 s = ap (λ (k : HeadV1). askV1 (k .letter) (dataFrom 4 s)) (t .2) in
       rw (number-v1 s g room r (t .0) o (t .1), ← q) (of-v1 g (h .address) (askV1 (h .letter) (dataFrom 4 s)) e)
-  by-frame (frame.V2 h) t e =
+  by-frame (frame.V2 h) t n e =
       let q : askV2 h (dataFrom 8 s) ≡ askedV2 s = ap (λ (k : HeadV2). askV2 k (dataFrom 8 s)) (t .3) in
       rw (number-v2 s g room r (t .0) o (t .1) (t .2), ← q) (of-v2 g (h .address) (askV2 h (dataFrom 8 s)) e)
 
   -- what the reader refuses the gauge refuses, with the same number
   pub refused-alike : eqb (requestNumber (requestOf s)) 0 ≡ false → Refuses g (requestNumber (requestOf s)) (numberOf g room s)
   unfolding requestOf
-  refused-alike = by-frame (frameOf s) (tells s)
+  refused-alike = by-frame (frameOf s) (tells s) (numbered s)
 
   -- what the gauge accepts is a typed request
   pub accepted-read : numberOf g room s ≡ 0 → requestNumber (requestOf s) ≡ 0

@@ -1,1 +1,1 @@
-// Numbers of answers: theorems only, in specs/.
+// Theorems on the numbers of answers, over the definitions of the other crates alone: see specs/.

@@ -4,6 +4,7 @@ use mathlib.Core.Bool.{Bool, true, false, cond, not, _&&_}
 use mathlib.Core.List.{List}
 use mathlib.Core.Option.{none, some}
 use Prim.Native.Nat.{ℕ, _≤_}
+use borrow.Author.Tests.{eq-eqb, eqb-true}
 use lib.Dec.{eqb}
 use lib.ListN.{length, take}
 use Rattle.buffer.specs.First.{pick}
@@ -23,14 +24,13 @@ use Rattle.readings.specs.There.{names}
 use Rattle.line.specs.Line.{lineAnswer}
 use Rattle.gauge_rules.specs.State.{State, stateOf}
 use Rattle.gauge_rules.specs.declared.Gauge.{Gauge}
-use Rattle.gauge_table.specs.Asked.{isV1, askedV2, askedV1}
+use Rattle.gauge_table.specs.Asked.{isV1, askedV1}
 use Rattle.gauge_table.specs.Table.{numberOf}
-use Rattle.gauge_table.specs.DecidedV2.{by, decidedV2}
-use Rattle.gauge_table.specs.Numbers.{number-v2}
+use Rattle.gauge_table.specs.DecidedV2.{by}
 use Rattle.gauge_table.specs.After.{answerOf, asksUnlock, afterwards, nextOf, benched}
-use Rattle.gauge_facts.specs.Kept.{SoundState, fresh-sound, next-sound, bench-sound, lower-below, decided}
+use Rattle.gauge_facts.specs.Kept.{SoundState, fresh-sound, next-sound, bench-sound, lower-below}
 use Rattle.gauge_facts.specs.Refused.{readings-stay}
-use Rattle.gauge_facts.specs.Lemmas.Rows.{past-row}
+use Rattle.gauge_facts.specs.Typed.{decided-as-v1, decided-as-v2}
 use Rattle.gauge_facts.specs.Lengths.{within-lent}
 use Rattle.gauge_facts.specs.Line.{line-fits, line-within-lent}
 use Rattle.history.specs.Latest.{orElse, latest, follows}
@@ -46,26 +46,14 @@ use Rattle.sequence_facts.specs.Lemmas.Line.{sent-bytes, listed-places, 
 -- ---- one request, on what the model holds
 
 module _ (m : State) (lent : ℕ) (s : List ℕ) where
-  -- an accepted V2 request is decided by the rules of V2
-  decided-v2 : isV1 s ≡ false → eqb (numberOf m lent s) 0 ≡ true → eqb (decidedV2 m (askedV2 s)) 0 ≡ true
-  unfolding numberOf
-  decided-v2 l e =
-      let a = past-row _ 1 _ refl e in
-      let b = past-row _ 2 _ refl (a .1) in
-      let c = past-row _ 3 _ refl (b .1) in
-      let d = past-row _ 4 _ refl (c .1) in
-      let f = past-row _ 5 _ refl (d .1) in
-      let w = rw l at (past-row _ 6 _ refl (f .1) .0) in
-      rw (number-v2 s m lent (a .0) (record { shape = b .0; sum = c .0; address = d .0 }) (f .0) l w) at e
-
   -- each setting afterwards is what the request's bytes say of it, or what it was
   setting-next : (key : Key) → holding key (nextOf m lent s .settings) ≡ orElse (pick (eqb (numberOf m lent s) 0) (writes key s) none) (holding key (m .settings))
   unfolding nextOf afterwards pick orElse
   setting-next key =
       by (eqb (numberOf m lent s) 0)
-      (λ e. by (isV1 s)
-      (λ l. rw (e, l) (v1-says m key (m .settings) s l (rw (decided m lent s l e) at e)))
-      (λ l. rw (e, l) (v2-says m key (m .settings) s (decided-v2 l e))))
+      (λ e. let z = eqb-true (numberOf m lent s) 0 e in by (isV1 s)
+      (λ l. rw (e, l) (v1-says m key (m .settings) s l (eq-eqb _ 0 (decided-as-v1 m lent s z l))))
+      (λ l. rw (e, l) (v2-says m key (m .settings) s (eq-eqb _ 0 (decided-as-v2 m lent s z l)))))
       (λ e. rw e)
 
   unlock-next : nextOf m lent s .unlocked ≡ orElse (pick (isV1 s && not (within 1 5 (numberOf m lent s))) (some (eqb (numberOf m lent s) 0 && isUnlock s)) none) (m .unlocked)

@@ -24,17 +24,15 @@ use Rattle.settings.specs.declared.Key.{Key}
 use Rattle.settings.specs.declared.Key.the-variants.{DA, DU, C1, CM, CC, FC, ST, SM}
 use Rattle.settings.specs.declared.Setting.{Setting}
 use Rattle.settings.specs.declared.Setting.the-variants.{Address, PressureIn, Factor, Control, Cathode, Filament, Switch, Stream}
-use Rattle.forms.specs.Forms.{streamData}
-use Rattle.forms.specs.Judged.{verdictOf, ifSet, listIn}
-use Rattle.forms.specs.declared.Verdict.the-variants.{Set}
+use Rattle.forms.specs.Judged.{listIn}
 use Rattle.forms_facts.specs.Codes.{Short}
 use Rattle.forms_facts.specs.Sound.{Sound}
 use Rattle.forms_facts.specs.Form.{Form}
-use Rattle.forms_facts.specs.Exactly.{accepted-exactly}
+use Rattle.forms_facts.specs.Exactly.{accepted-with-list}
 use Rattle.forms_facts.specs.Lemmas.Lacks.{split, until-lacks}
 use Rattle.forms_facts.specs.Lemmas.Lists.{none-short}
 use Rattle.forms_facts.specs.Lemmas.Numbers.{read-lacks}
-use Rattle.forms_facts.specs.Lemmas.Texts.{of-each, list-again}
+use Rattle.forms_facts.specs.Lemmas.Texts.{of-each}
 use Rattle.history.specs.Latest.{orElse}
 use Rattle.sequence_facts.specs.Writes.{Value, holding, numberIn, unitNamed, transitionIn, sourceAt, entries, streamIn, writtenV2, nameOf}
 
@@ -141,14 +139,10 @@ entries-said (c ∷ list) e =
     let r = reads c (w .0) (listText list) in
     rw (r .0, r .1, entries-said list (w .1))
 
-stream-judged : (on : Bool) (list : List ℕ) → Short list → streamData (streamText on list) ≡ Set (Stream on)
-unfolding verdictOf
-stream-judged on list h = accepted-exactly SM (streamText on list) (Stream on) .1 (refl, (list, h, refl), tt)
-
 stream-said : (on : Bool) (list : List ℕ) → Short list → streamIn (streamText on list) ≡ some (Stream on, listIn SM (streamText on list))
-unfolding streamIn streamText entries listIn ifSet listText pick
-stream-said true list h = rw (stream-judged true list h, list-again list h, entries-said list (h .known))
-stream-said false list h = rw (stream-judged false list h, list-again [] none-short)
+unfolding streamIn streamText entries pick
+stream-said true list h = rw (accepted-with-list SM (streamText true list) (Stream true) list .1 (refl, refl, tt, h) .1, entries-said list (h .known))
+stream-said false list h = rw (accepted-with-list SM (streamText false list) (Stream false) [] .1 (refl, (refl, refl), tt, none-short) .1)
 
 -- what the data of a write say, where they are accepted as x
 abbrev Wrote : List ℕ → Setting → Key → Type 0

@@ -6,7 +6,7 @@ use mathlib.Core.Option.{none, some}
 use Prim.Native.Nat.{ℕ, _≤_}
 use borrow.Author.Tests.{eq-eqb, eqb-true}
 use lib.Dec.{eqb}
-use lib.ListN.{length, take}
+use lib.ListN.{length}
 use Rattle.buffer.specs.First.{pick}
 use Rattle.buffer.specs.Byte.{at, within}
 use Rattle.buffer.specs.Answer.{Answer, Sent}
@@ -36,8 +36,8 @@ use Rattle.gauge_facts.specs.Line.{line-fits, line-within-lent}
 use Rattle.history.specs.Latest.{orElse, latest, follows}
 use Rattle.sequence_facts.specs.Model.{step, modelOf}
 use Rattle.sequence_facts.specs.Writes.{holding, writes}
-use Rattle.sequence_facts.specs.Shown.{Listed, shownLine, valuesIn}
-use Rattle.sequence_facts.specs.Sequence.{asked, set, lined, History, model, Trace, begin, ask, tell, show, AllFixed, LineOf, Claim, saysSetting, sameCode, Origin, started, handed, saysReading, Stands, isUnlock, saysUnlock}
+use Rattle.sequence_facts.specs.Shown.{Listed}
+use Rattle.sequence_facts.specs.Sequence.{asked, set, lined, History, model, Trace, begin, ask, tell, show, AllFixed, Shows, Claim, saysSetting, sameCode, Origin, started, handed, saysReading, Stands, isUnlock, saysUnlock}
 use Rattle.sequence_facts.specs.Lemmas.Requests.{v2-says, v1-says}
 use Rattle.sequence_facts.specs.Lemmas.Readings.{accepted-stands}
 use Rattle.sequence_facts.specs.Lemmas.Unlock.{unlock-is}
@@ -157,26 +157,16 @@ sofar (show {h} {g} {before} {after} {w} t a) =
     }
 
 -- the line of a sound gauge shows what stands at the sources listed
-module _ (g : Gauge) (f : SoundState (stateOf g)) where
-  shows-whole : (places : List Place) × Listed (held (g .settings) .list) places
-      × ((before after : List ℕ) (w : Written) → LineOf g before after w → g .settings .streaming ≡ true → 96 ≤ length before
-      → (w .number ≡ 0) × (take (w .len) after ≡ shownLine (g .readings) places))
-  shows-whole =
-      let p = listed-places (held (g .settings) .list) (f .settings .list) in (
-        p .0,
-        p .1,
-        λ before after w s on room.
-            let e = line-shown (g .readings) (f .readings) (held (g .settings)) (length before) (p .0) (p .1) on room in
-            (s .number ∙ ap (λ (a : Answer). a .number) e, sent-bytes s ∙ ap (λ (a : Answer). a .reply) e),
-      )
+shows-whole : (g : Gauge) → SoundState (stateOf g) → (places : List Place) × Listed (held (g .settings) .list) places × Shows g places
+shows-whole g f =
+    let p = listed-places (held (g .settings) .list) (f .settings .list) in
+    (p .0, p .1, λ before after w s on room.
+    let e = line-shown (g .readings) (f .readings) (held (g .settings)) (length before) (p .0) (p .1) on room in
+    (s .number ∙ ap (λ (a : Answer). a .number) e, sent-bytes s ∙ ap (λ (a : Answer). a .reply) e))
 
-  few-values : (before after : List ℕ) (w : Written) → LineOf g before after w → valuesIn (take (w .len) after) ≤ 8
-  few-values before after w s = rw (sent-bytes s) (line-few (length before) (held (g .settings)) (g .readings) (f .settings .list) (f .readings))
-
-  few-bytes : (before after : List ℕ) (w : Written) → LineOf g before after w → (length (take (w .len) after) ≡ w .len) × (w .len ≤ 96)
-  few-bytes before after w s =
-      let k = rw longest-is at (line-fits (length before) (held (g .settings)) (g .readings) (f .settings .list .few)) in
-      (rw (sent-bytes s) (sym (s .len)), rw (s .len) k)
+-- and has at most 96 bytes
+line-low : (g : Gauge) → SoundState (stateOf g) → (room : ℕ) → length (lineAnswer room (held (g .settings)) (g .readings) .reply) ≤ 96
+line-low g f room = rw longest-is at (line-fits room (held (g .settings)) (g .readings) (f .settings .list .few))
 
 -- THE THEOREM
 pub claimed : {h : History} {g : Gauge} → Trace h g → Claim h g
@@ -192,6 +182,6 @@ claimed {h} {g} t =
       below = λ low high e. lower-below (stateOf g) low high (c .sound) e;
       line-is = λ before after w f. sent-too (ap (λ (m : State). lineAnswer (length before) (m .settings) (m .readings)) (c .holds)) f;
       line-shows = shows-whole g (c .sound);
-      line-values = few-values g (c .sound);
-      line-bytes = few-bytes g (c .sound);
+      line-values = λ before after w s. rw (sent-bytes s) (line-few (length before) (held (g .settings)) (g .readings) (c .sound .settings .list) (c .sound .readings));
+      line-bytes = λ before after w s. (rw (sent-bytes s) (sym (s .len)), rw (s .len) (line-low g (c .sound) (length before)));
     }

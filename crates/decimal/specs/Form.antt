@@ -1,4 +1,6 @@
--- Document 01, "Decimal numbers": the form, read from the front; each definition is given what is left of the text. Assumes nothing.
+-- Document 01, "Decimal numbers": the form, read from the front; each definition is given what is left of the text. It goes by the reader's
+-- steps. What to believe is the grammar, `decimal_facts/specs/Grammar`: its texts are exactly those that are read here, each with its value
+-- (`decimal_facts/specs/Accepts: complete, sound, syntax-exactly`). Assumes nothing.
 use mathlib.Core.Bool.{Bool, true, false, cond, not, _||_}
 use mathlib.Core.List.{List, [], _∷_}
 use Prim.Native.Nat.{ℕ, _+_, _*_, _^_}

@@ -94,9 +94,10 @@ form-range p g =
 
 -- and of no other text
 pub range-exactly : (s : List ℕ) → (numberOf s ≡ Range) ↔ ((p : Parts) × Good p × (textOf p ≡ s) × OutOfRange (meaning p))
-range-exactly s =
-    (λ e. let w = of-form s Range e no in (w .0, w .1, w .2, form-range (w .0) (w .1) .0 (form-reads (w .0) (w .1) ∙ w .3)),
-    λ w. let e : textOf (w .0) ≡ s = w .2 in rw (← e) (form-range (w .0) (w .1) .1 (w .3)))
+range-exactly s = (
+  λ e. let w = of-form s Range e no in (w .0, w .1, w .2, form-range (w .0) (w .1) .0 (form-reads (w .0) (w .1) ∙ w .3)),
+  λ w. let e : textOf (w .0) ≡ s = w .2 in rw (← e) (form-range (w .0) (w .1) .1 (w .3)),
+)
   where
     no : Range ≡ Syntax → ⊥
     no e = let z : _≡_ {A = ℕ} 0 1 = cc in omega arith

@@ -92,7 +92,7 @@ module _ (code : ℕ) (x : Exact) where
   -- a number's hundredths are the value's
   hundredths-too : (n : Number) (h : ℕ) → Exactly x n → hundredthsOf n ≡ Whole h → Hundredths x (n .negative) h
   hundredths-too n h f e =
-      let u : units n ≡ h * 10 ^ 12 = hundredths-exactly n h .0 e .0 in
+      let u = hundredths-exactly n h .0 e .0 in
       let s : h * 10 ^ 12 * 10 ^ x .down ≡ x .digits * 10 ^ x .up * 10 ^ 14 = rw u at (f .size) in
       record {
         size = omega arith;

@@ -2,7 +2,6 @@
 use mathlib.Core.Path.{_≡_, refl, sym, ap, _∙_}
 use mathlib.Core.Bool.{Bool, true, false, not, _&&_, true≢false}
 use mathlib.Core.List.{List, [], _∷_}
-use mathlib.Core.Logic.{_⊎_, inl, inr}
 use Prim.Native.Nat.{ℕ, _+_, _*_, _^_, _<_, _≤_}
 use native.Mathlib.Omega.{arith}
 use borrow.Author.Tests.{eq-eqb, eqb-true, eqb-false, lt-leb, le-ltb, not-false}
@@ -17,7 +16,6 @@ use Rattle.decimal.specs.Number.{belowOf}
 use Rattle.decimal.specs.declared.Number.{Number}
 use Rattle.decimal.specs.declared.Parsed.the-variants.{Value}
 use Rattle.decimal.specs.declared.Hundredths.the-variants.{Whole}
-use Rattle.decimal_facts.specs.Canonical.{Canonical}
 use Rattle.decimal_facts.specs.Value.{exact}
 use Rattle.frames.specs.Frame.{addressOf, wrongAddress}
 use Rattle.frames.specs.declared.HeadV2.{HeadV2}

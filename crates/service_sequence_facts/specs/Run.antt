@@ -40,11 +40,12 @@ unfoldable pub streamOf : List (List ℕ) → List ℕ
 streamOf [] = []
 streamOf (bytes ∷ parts) = streamOf parts ++ bytes
 
--- request for request the same. One of over 109 bytes, which is SHAPE, may be cut: where a piece ends within it, its first 110 bytes are kept
+-- Request for request the same. One of over 109 bytes, which is SHAPE, may be cut: of its bytes up to the place k, where a piece ends within it, the
+-- first 110 are kept. So it has over 109 bytes still.
 pub data Same : List (List ℕ) → List (List ℕ) → Type 0 where
   none : Same [] []
   whole : {f : List ℕ} {a b : List (List ℕ)} → Same a b → Same (f ∷ a) (f ∷ b)
-  cut : {x f : List ℕ} {a b : List (List ℕ)} → 109 < length x → 109 < length f → take mostKept x ≡ take mostKept f → Same a b → Same (x ∷ a) (f ∷ b)
+  cut : {x f : List ℕ} {a b : List (List ℕ)} (k : ℕ) → mostKept ≤ k → k ≤ length f → x ≡ take mostKept f ++ drop k f → Same a b → Same (x ∷ a) (f ∷ b)
 
 -- a request, lent as much as an answer asks for
 abbrev pub Request : Exchange → Type 0

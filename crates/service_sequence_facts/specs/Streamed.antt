@@ -5,9 +5,8 @@ use Prim.Native.Nat.{ℕ, _+_, _-_, _<_, _≤_}
 use native.Mathlib.Omega.{arith}
 use borrow.Author.Tests.{leb-true, leb-false}
 use lib.Dec.{leb}
-use lib.ListN.{length, take, drop, length-append, length-take}
-use lib.Seq.{drop-drop, take-all}
-use Rattle.buffer.proofs.Laws.{take-cut}
+use lib.ListN.{length, take, drop, length-append}
+use lib.Seq.{drop-drop, drop-append-seam, take-append-le, take-all}
 use Rattle.gauge_rules.specs.State.{State, stateOf}
 use Rattle.gauge_rules.specs.declared.Gauge.{Gauge}
 use Rattle.gauge_table.specs.Table.{answerRoom}
@@ -143,7 +142,7 @@ same-all (f ∷ fs) = whole (same-all fs)
 same-append : {a b c d : List (List ℕ)} → Same a b → Same c d → Same (a ++ c) (b ++ d)
 same-append none t = t
 same-append (whole s) t = whole (same-append s t)
-same-append (cut l m e s) t = cut l m e (same-append s t)
+same-append (cut k l m e s) t = cut k l m e (same-append s t)
 
 same-by : {a a′ b b′ : List (List ℕ)} → a′ ≡ a → b′ ≡ b → Same a b → Same a′ b′
 same-by p q s = rw (p, q) s
@@ -152,9 +151,8 @@ same-long : (x : List ℕ) → 110 ≤ length x → (fs : List (List ℕ)) (u : 
 unfolding openBefore
 same-long x h [] u = none
 same-long x h (f ∷ fs) u =
-    let short : 109 < length (take mostKept x ++ f) = rw (length-append, length-take) (omega arith) in
-    let long : 109 < length (x ++ f) = rw length-append (omega arith) in
-    cut short long (take-cut mostKept x f) (same-all fs)
+    let within : length x ≤ length (x ++ f) = rw length-append (omega arith) in
+    cut (length x) h within (sym (ap₂ (λ (p q : List ℕ). p ++ q) (take-append-le mostKept x f h) (drop-append-seam x f))) (same-all fs)
 
 -- whatever bytes follow an end with no CR
 kept-same : (x b : List ℕ) → Open x → Same (framesOf (take mostKept x ++ b)) (framesOf (x ++ b))
@@ -197,4 +195,4 @@ from-start {g = g} run =
 pub all-short : {a b : List (List ℕ)} → Same a b → Each (λ rest f. length f ≤ 109) b → a ≡ b
 all-short none k = refl
 all-short (whole {f} s) k = ap (λ (l : List (List ℕ)). f ∷ l) (all-short s (k .1))
-all-short (cut l m e s) k = absurd (omega (arith, k .0))
+all-short (cut i l m e s) k = absurd (omega (arith, k .0))

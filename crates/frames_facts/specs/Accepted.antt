@@ -1,12 +1,11 @@
 -- A frame's writer accepts exactly what can be sent and fits, and what it wrote is read as what was written. Assumes nothing.
-use mathlib.Core.Path.{_≡_, refl, sym, _∙_}
-use mathlib.Core.Bool.{Bool, true, false, not, and-eq-true-iff}
+use mathlib.Core.Path.{_≡_, refl}
+use mathlib.Core.Bool.{Bool, true, and-eq-true-iff}
 use mathlib.Core.List.{List, []}
 use mathlib.Core.Logic.{_↔_}
 use Prim.Native.Nat.{ℕ, _≤_}
 use native.Mathlib.Omega.{arith}
 use borrow.Author.Tests.{le-ltb, ltb-false, le-leb, leb-true, not-false}
-use lib.Dec.{leb}
 use lib.ListN.{length}
 use Rattle.buffer.specs.First.{pick}
 use Rattle.buffer.specs.Byte.{within, isDigit, every}
@@ -27,23 +26,25 @@ fit most d = (λ e. let h = and-eq-true-iff _ _ .0 e in (leb-true (length d) mos
 
 pub sendable-exactly-v2 : (h : HeadV2) (d : List ℕ) → SendableV2 h d ↔ ((carriesV2 h d ≡ true) × (within 1 999 (h .address) ≡ true))
 unfolding carriesV2
-sendable-exactly-v2 h d =
-    (λ ok. (rw (ok .access-in, ok .first-in, ok .second-in) (fit 99 d .1 (ok .few, ok .bytes-in)), ok .address-in),
-    λ e.
-    let a = and-eq-true-iff _ (dataFit 99 d) .0 (e .0) in
-    let b = and-eq-true-iff _ (within 32 126 (h .second)) .0 (a .0) in
-    let c = and-eq-true-iff (isDigit (h .access)) (within 32 126 (h .first)) .0 (b .0) in
-    let f = fit 99 d .0 (a .1) in
-    record { address-in = e .1; access-in = c .0; first-in = c .1; second-in = b .1; bytes-in = f .1; few = f .0 })
+sendable-exactly-v2 h d = (
+  λ ok. (rw (ok .access-in, ok .first-in, ok .second-in) (fit 99 d .1 (ok .few, ok .bytes-in)), ok .address-in),
+  λ e.
+      let a = and-eq-true-iff _ (dataFit 99 d) .0 (e .0) in
+      let b = and-eq-true-iff _ (within 32 126 (h .second)) .0 (a .0) in
+      let c = and-eq-true-iff (isDigit (h .access)) (within 32 126 (h .first)) .0 (b .0) in
+      let f = fit 99 d .0 (a .1) in
+      record { address-in = e .1; access-in = c .0; first-in = c .1; second-in = b .1; bytes-in = f .1; few = f .0 },
+)
 
 pub sendable-exactly-v1 : (h : HeadV1) (d : List ℕ) → SendableV1 h d ↔ ((carriesV1 h d ≡ true) × (within 1 999 (h .address) ≡ true))
 unfolding carriesV1
-sendable-exactly-v1 h d =
-    (λ ok. (rw (ok .letter-in) (fit 6 d .1 (ok .few, ok .bytes-in)), ok .address-in),
-    λ e.
-    let a = and-eq-true-iff (isLetter (h .letter)) (dataFit 6 d) .0 (e .0) in
-    let f = fit 6 d .0 (a .1) in
-    record { address-in = e .1; letter-in = a .0; bytes-in = f .1; few = f .0 })
+sendable-exactly-v1 h d = (
+  λ ok. (rw (ok .letter-in) (fit 6 d .1 (ok .few, ok .bytes-in)), ok .address-in),
+  λ e.
+      let a = and-eq-true-iff (isLetter (h .letter)) (dataFit 6 d) .0 (e .0) in
+      let f = fit 6 d .0 (a .1) in
+      record { address-in = e .1; letter-in = a .0; bytes-in = f .1; few = f .0 },
+)
 
 -- ---- what the writers accept
 
@@ -65,14 +66,16 @@ module _ (room : ℕ) (carried : Bool) (address : ℕ) (frame : List ℕ) where
 
 -- "exactly": accepted is what fits and can be sent
 pub accepted-exactly-v2 : (room : ℕ) (h : HeadV2) (d : List ℕ) → (writtenV2 room h d .number ≡ 0) ↔ ((length (frameV2 h d) ≤ room) × SendableV2 h d)
-accepted-exactly-v2 room h d =
-    (λ z. let t = taken room (carriesV2 h d) (h .address) (frameV2 h d) z in (t .0, sendable-exactly-v2 h d .1 (t .1, t .2)),
-    λ e. let c = sendable-exactly-v2 h d .0 (e .1) in takes room (carriesV2 h d) (h .address) (frameV2 h d) (e .0) (c .0) (c .1))
+accepted-exactly-v2 room h d = (
+  λ z. let t = taken room (carriesV2 h d) (h .address) (frameV2 h d) z in (t .0, sendable-exactly-v2 h d .1 (t .1, t .2)),
+  λ e. let c = sendable-exactly-v2 h d .0 (e .1) in takes room (carriesV2 h d) (h .address) (frameV2 h d) (e .0) (c .0) (c .1),
+)
 
 pub accepted-exactly-v1 : (room : ℕ) (h : HeadV1) (d : List ℕ) → (writtenV1 room h d .number ≡ 0) ↔ ((length (frameV1 h d) ≤ room) × SendableV1 h d)
-accepted-exactly-v1 room h d =
-    (λ z. let t = taken room (carriesV1 h d) (h .address) (frameV1 h d) z in (t .0, sendable-exactly-v1 h d .1 (t .1, t .2)),
-    λ e. let c = sendable-exactly-v1 h d .0 (e .1) in takes room (carriesV1 h d) (h .address) (frameV1 h d) (e .0) (c .0) (c .1))
+accepted-exactly-v1 room h d = (
+  λ z. let t = taken room (carriesV1 h d) (h .address) (frameV1 h d) z in (t .0, sendable-exactly-v1 h d .1 (t .1, t .2)),
+  λ e. let c = sendable-exactly-v1 h d .0 (e .1) in takes room (carriesV1 h d) (h .address) (frameV1 h d) (e .0) (c .0) (c .1),
+)
 
 -- ---- whatever was accepted is read back
 

@@ -1,4 +1,4 @@
--- What follows from the definitions of `frames`.
+-- What follows from the definitions of `frames` and `frame_writer`.
 pub mod Shape
 pub mod ReadBack
 pub mod Exactly

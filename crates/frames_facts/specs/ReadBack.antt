@@ -92,7 +92,7 @@ count-right s n h e k = rw (e, k, digit-is (n / 10), digit-is n, count-back n h,
 
 -- ---- V2
 
--- what a V2 frame can carry
+-- what can be sent as a V2 frame: what it can carry, and an address that it can hold (`sendable-exactly-v2` of Accepted)
 pub record SendableV2 (h : HeadV2) (bytes : List ℕ) : Type 0 where
   pub address-in : within 1 999 (h .address) ≡ true
   pub access-in : isDigit (h .access) ≡ true
@@ -169,7 +169,7 @@ module _ (h : HeadV2) (bytes : List ℕ) (ok : SendableV2 h bytes) where
 
 -- ---- V1
 
--- what a V1 frame can carry
+-- what can be sent as a V1 frame (`sendable-exactly-v1`)
 pub record SendableV1 (h : HeadV1) (bytes : List ℕ) : Type 0 where
   pub address-in : within 1 999 (h .address) ≡ true
   pub letter-in : isLetter (h .letter) ≡ true

@@ -16,7 +16,7 @@ use Rattle.frames.specs.Frame.{isLetter, lengthFits, misshapen}
 use Rattle.frames.specs.declared.HeadV1.{HeadV1}
 use Rattle.frames.specs.declared.HeadV2.{HeadV2}
 use Rattle.frame_writer.specs.Written.{frameV1, frameV2}
-use Rattle.frame_writer.specs.Error.{errorOf, errorBytes, errorDataV1}
+use Rattle.frame_writer.specs.Error.{errorOf, errorDataV1}
 use Rattle.frame_writer.specs.declared.ErrorText.the-variants.{Logic, Range}
 use Rattle.sources.specs.Source.{mostEntries}
 use Rattle.printed_facts.specs.Fits.{error-le, read-le}

@@ -12,7 +12,7 @@ use Rattle.frames.specs.declared.HeadV1.{HeadV1}
 use Rattle.frames.specs.declared.HeadV2.{HeadV2}
 use Rattle.frame_writer.specs.Error.{errorBytes, errorHeadV2, errorLetterV1, errorDataV1, errorHeadV1}
 use Rattle.frame_writer.specs.declared.ErrorText.{ErrorText}
-use Rattle.frame_writer.specs.declared.ErrorText.the-variants.{Logic, NoDef, Range}
+use Rattle.frame_writer.specs.declared.ErrorText.the-variants.{Logic, Range}
 use Rattle.frames_facts.specs.ReadBack.{SendableV2, SendableV1}
 use Rattle.requests.specs.declared.Command.{Command}
 use Rattle.requests.specs.declared.Command.the-variants.{MV, T2, FN, FS, Of}
@@ -21,7 +21,7 @@ use Rattle.requests.specs.declared.RequestV2.the-variants.{Read, Restore, Set}
 use Rattle.requests.specs.declared.RequestV1.{RequestV1}
 use Rattle.requests.specs.declared.RequestV1.the-variants.{Measure, ReadFactor, Unlock, SetFactor, ReadUnit, SetUnit}
 use Rattle.request_texts.specs.RequestText.{unitCode}
-use Rattle.printed_facts.specs.Printed.{Printed, one, next, digit-printed, digits6-printed, read-printed, pressure-printed, temperature-printed, measure-printed, error-printed}
+use Rattle.printed_facts.specs.Printed.{Printed, digit-printed, digits6-printed, read-printed, pressure-printed, temperature-printed, measure-printed, error-printed}
 use Rattle.printed_facts.specs.Fits.{error-le}
 use Rattle.gauge_rules.specs.State.{State}
 use Rattle.gauge_rules.specs.RulesV2.{answerCode, sentText, textV2}

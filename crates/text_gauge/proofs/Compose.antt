@@ -1,19 +1,18 @@
 -- The parts of an answer, put together. Assumes nothing.
 use mathlib.Core.Path.{_≡_, sym, ap, _∙_}
-use mathlib.Core.Bool.{Bool, true, false, not, true≢false, false≢true}
+use mathlib.Core.Bool.{Bool, true, false, not}
 use mathlib.Core.List.{List, []}
 use Prim.Native.Nat.{ℕ, _≤_}
-use native.Mathlib.Omega.{arith}
-use borrow.Author.Tests.{ne-eqb, not-false}
+use borrow.Author.Tests.{ne-eqb}
 use lib.Dec.{eqb, ltb}
 use lib.ListN.{length}
 use Rattle.buffer.specs.First.{pick}
-use Rattle.buffer.specs.Byte.{at, within, isDigit}
+use Rattle.buffer.specs.Byte.{at, within}
 use Rattle.buffer.specs.Answer.{Sent}
 use Rattle.buffer.specs.declared.Written.{Written}
-use Rattle.buffer.proofs.Laws.{refuses, within-true, within-below}
-use Rattle.buffer.proofs.Rules.{each, not-eqb, not-neqb}
-use Rattle.frames.specs.Frame.{isLetter, dataFrom, addressOf, lengthFits, misshapen, wrongLength, headV1, headV2, frameOf}
+use Rattle.buffer.proofs.Laws.{refuses}
+use Rattle.buffer.proofs.Rules.{not-eqb, not-neqb}
+use Rattle.frames.specs.Frame.{isLetter, dataFrom, addressOf, wrongLength, headV1, headV2, frameOf}
 use Rattle.frames.specs.declared.HeadV1.{HeadV1}
 use Rattle.frames.specs.declared.HeadV2.{HeadV2}
 use Rattle.frames.specs.declared.Frame.{Frame}

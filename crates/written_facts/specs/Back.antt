@@ -1,6 +1,6 @@
 -- "A typed request that the writer accepts, once written and read again, is the same request." Assumes nothing.
 use mathlib.Core.Path.{_≡_, refl, sym, ap, _∙_}
-use mathlib.Core.Bool.{Bool, true, false, not, true≢false}
+use mathlib.Core.Bool.{Bool, true, not, true≢false}
 use mathlib.Core.List.{List, []}
 use Prim.Native.Nat.{ℕ, _≤_}
 use native.Mathlib.Omega.{arith}
@@ -8,12 +8,11 @@ use borrow.Author.Tests.{eq-eqb, eqb-true, not-false}
 use lib.Dec.{eqb, ltb, leb}
 use lib.ListN.{length}
 use Rattle.buffer.specs.First.{pick}
-use Rattle.buffer.specs.Byte.{at, within, isDigit}
+use Rattle.buffer.specs.Byte.{at, within}
 use Rattle.buffer.specs.Answer.{Answer, silent}
-use Rattle.buffer.specs.Quoted.{bytes}
 use Rattle.buffer.proofs.Laws.{within-true, within-in}
 use Rattle.buffer.proofs.Rules.{each}
-use Rattle.frames.specs.Frame.{isLetter, dataFrom, frameOf}
+use Rattle.frames.specs.Frame.{dataFrom, frameOf}
 use Rattle.frames.specs.declared.Frame.the-variants as frame
 use Rattle.frame_writer.specs.Written.{frameV1, frameV2}
 use Rattle.frames_facts.specs.ReadBack.{ReadV2, read-back-v2, ReadV1, read-back-v1}
@@ -21,30 +20,27 @@ use Rattle.sources.specs.Source.{mostEntries, listOf}
 use Rattle.sources.specs.declared.Sources.{Sources}
 use Rattle.settings.specs.Limits.{standard}
 use Rattle.settings.specs.Settings.{keyOf, factory, putOf}
-use Rattle.settings.specs.declared.Key.the-variants.{DA, DU, C1, CM, CC, FC, ST, SM}
 use Rattle.settings.specs.declared.Setting.{Setting}
 use Rattle.settings.specs.declared.Setting.the-variants.{Address, PressureIn, Factor, Control, Cathode, Filament, Switch, Stream}
 use Rattle.forms.specs.declared.Verdict.{Verdict}
 use Rattle.forms.specs.declared.Verdict.the-variants as verdict
-use Rattle.requests.specs.Command.{commandText, restoreCode, lacksAccess}
+use Rattle.requests.specs.Command.{restoreCode, lacksAccess}
 use Rattle.requests.specs.AskV2.{setOf, askV2}
-use Rattle.requests.specs.AskV1.{askV1}
 use Rattle.requests.specs.declared.Command.{Command}
-use Rattle.requests.specs.declared.Command.the-variants.{MV, T2, FN, FS, Of}
 use Rattle.requests.specs.declared.RequestV2.{RequestV2}
 use Rattle.requests.specs.declared.RequestV2.the-variants.{Read, Restore, Set}
 use Rattle.requests.specs.declared.AskV2.{AskV2}
 use Rattle.requests.specs.declared.AskV2.the-variants.{For, Refused}
 use Rattle.requests.specs.declared.RequestV1.{RequestV1}
 use Rattle.requests.specs.declared.RequestV1.the-variants.{Measure, ReadFactor, Unlock, SetFactor, ReadUnit, SetUnit}
-use Rattle.request_texts.specs.RequestText.{accessOf, commandIn, headFor, dataV2, headForV1, letterV1, dataV1}
+use Rattle.request_texts.specs.RequestText.{headFor, dataV2, headForV1, dataV1}
 use Rattle.printed_facts.specs.Fits.{read-le}
 use Rattle.printed_facts.specs.Sendable.{request-sendable-v2, request-sendable-v1}
 use Rattle.request_writer.specs.Typed.{typedVerdict, formedV2, formedV1}
 use Rattle.request_writer.specs.Written.{sentV2, requestWrittenV2, requestWrittenV1}
 use Rattle.request_reader.specs.Decoded.{fromV2, judgedV1, fromV1, fromFrame, requestOf, listFrom, requestList}
 use Rattle.request_reader.specs.declared.Request.the-variants.{V1, V2}
-use Rattle.written_facts.specs.Same.{SameV2, SameSetting, SameList}
+use Rattle.written_facts.specs.Same.{SameV2, SameList}
 use Rattle.written_facts.specs.Lemmas.Typed.{ListFits, Told, told}
 use Rattle.written_facts.specs.Lemmas.Asked.{read-asked, restore-asked, set-asked, list-asked, Written, asked-v1}
 

@@ -9,7 +9,6 @@ use lib.Dec.{eqb}
 use lib.ListN.{length}
 use Rattle.buffer.specs.First.{pick}
 use Rattle.buffer.specs.Byte.{at, within, isDigit, every, sameText}
-use Rattle.buffer.specs.Quoted.{bytes}
 use Rattle.frames.specs.Checksum.{closed}
 use Rattle.frames.specs.Frame.{dataFrom}
 use Rattle.frames.specs.declared.HeadV2.{HeadV2}
@@ -19,10 +18,7 @@ use Rattle.frame_writer.specs.Error.{errorHeadV2, errorBytes}
 use Rattle.frame_writer.specs.declared.ErrorText.{ErrorText}
 use Rattle.frame_writer.specs.declared.ErrorText.the-variants.{Length, Logic, NoDef, Syntax, Range, Error1}
 use Rattle.frames_facts.specs.ReadBack.{SendableV2, read-back-v2}
-use Rattle.settings.specs.declared.Key.the-variants.{DA, DU, C1, CM, CC, FC, ST, SM}
 use Rattle.requests.specs.Command.{commandText}
-use Rattle.requests.specs.declared.Command.{Command}
-use Rattle.requests.specs.declared.Command.the-variants.{MV, T2, FN, FS, Of}
 use Rattle.requests.specs.declared.RequestV2.{RequestV2}
 use Rattle.requests.specs.declared.RequestV2.the-variants as request
 use Rattle.request_texts.specs.RequestText.{accessOf, commandIn, headFor}

@@ -1,7 +1,7 @@
 -- Document 01, "The bench sets the readings": which readings it can set. Assumes nothing.
 use mathlib.Core.Path.{_≡_}
 use mathlib.Core.Bool.{true, false}
-use Prim.Native.Nat.{_^_, _<_, _≤_}
+use Prim.Native.Nat.{_≤_}
 use Rattle.decimal.specs.Exact.{zeroNumber}
 use Rattle.decimal.specs.Number.{belowOf}
 use Rattle.decimal_facts.specs.Canonical.{Canonical}
@@ -12,8 +12,6 @@ use Rattle.readings.specs.declared.Temperature.the-variants.{Degrees, Failed}
 use Rattle.readings.specs.declared.Reading.{Reading}
 use Rattle.readings.specs.declared.Reading.the-variants.{P0, P1, P2, P6, P7, T2, T6, FS}
 use Rattle.readings.specs.declared.Readings.{Readings}
-use Rattle.readings.specs.declared.Bench.{Bench}
-use Rattle.readings.specs.declared.Bench.the-variants.{Reads, BelowRange, AboveRange, Fault, Status}
 
 -- "a value of the decimal form above, at most six significant digits; 0, 1, 2, 6 above zero"
 abbrev pub SoundPressure : Pressure → Type 0

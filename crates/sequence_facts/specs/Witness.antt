@@ -3,7 +3,6 @@ use mathlib.Core.Path.{_≡_, refl, sym, ap, subst, _∙_}
 use mathlib.Core.Bool.{true, false}
 use mathlib.Core.List.{List, [], _∷_, _++_, map}
 use Prim.Native.Nat.{ℕ, _≤_}
-use native.Mathlib.Omega.{arith}
 use lib.ListN.{length, take, replicate}
 use lib.Seq.{take-take, take-append-seam}
 use Rattle.buffer.specs.Byte.{within, every, sameText, untilOf, numeralFrom}
@@ -49,7 +48,6 @@ use Rattle.text_gauge.specs.Answer.{Answers, Benches}
 use Rattle.text_gauge.specs.declared.Answered.{Answered}
 use Rattle.text_gauge.specs.declared.BenchAnswer.{BenchAnswer}
 use Rattle.gauge_facts.specs.Kept.{SoundState, fresh-sound, next-sound, bench-sound}
-use Rattle.history.specs.Latest.{Each}
 use Rattle.sequence_facts.specs.Model.{step, modelOf}
 use Rattle.sequence_facts.specs.Sequence.{Exchange, asked, set, lined, History, model, Trace, begin, ask, tell, show, AllFixed}
 use Rattle.sequence_facts.specs.Shown.{countOf, valuesIn}

@@ -159,10 +159,13 @@ sofar (show {h} {g} {before} {after} {w} t a) =
 -- the line of a sound gauge shows what stands at the sources listed
 shows-whole : (g : Gauge) → SoundState (stateOf g) → (places : List Place) × Listed (held (g .settings) .list) places × Shows g places
 shows-whole g f =
-    let p = listed-places (held (g .settings) .list) (f .settings .list) in
-    (p .0, p .1, λ before after w s on room.
-    let e = line-shown (g .readings) (f .readings) (held (g .settings)) (length before) (p .0) (p .1) on room in
-    (s .number ∙ ap (λ (a : Answer). a .number) e, sent-bytes s ∙ ap (λ (a : Answer). a .reply) e))
+    let p = listed-places (held (g .settings) .list) (f .settings .list) in (
+      p .0,
+      p .1,
+      λ before after w s on room.
+          let e = line-shown (g .readings) (f .readings) (held (g .settings)) (length before) (p .0) (p .1) on room in
+          (s .number ∙ ap (λ (a : Answer). a .number) e, sent-bytes s ∙ ap (λ (a : Answer). a .reply) e),
+    )
 
 -- and has at most 96 bytes
 line-low : (g : Gauge) → SoundState (stateOf g) → (room : ℕ) → length (lineAnswer room (held (g .settings)) (g .readings) .reply) ≤ 96

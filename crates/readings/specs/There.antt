@@ -1,33 +1,19 @@
 -- A bench setting is for the source that it names, and the line shows each source's own reading. Assumes nothing.
-use mathlib.Core.Path.{_≡_, refl, ap}
-use mathlib.Core.Bool.{Bool}
+use mathlib.Core.Path.{_≡_}
 use mathlib.Core.List.{List, [], _∷_}
 use mathlib.Core.Option.{Option, none, some}
 use Prim.Native.Nat.{ℕ}
-use native.Mathlib.Omega.{arith}
-use borrow.Author.Tests.{eqb-true}
-use lib.Dec.{eqb}
-use Rattle.buffer.specs.First.{pick}
 use Rattle.buffer.specs.Byte.{digit}
-use Rattle.buffer.proofs.Rules.{each}
-use Rattle.decimal.specs.Number.{hundredthsOf}
-use Rattle.decimal.specs.declared.Parsed.{Parsed}
-use Rattle.decimal.specs.declared.Parsed.the-variants.{Value, Syntax, Range}
-use Rattle.decimal.specs.declared.Hundredths.{Hundredths}
-use Rattle.decimal.specs.declared.Hundredths.the-variants.{Whole, Other}
-use Rattle.readings.specs.Bench.{pressureAt, temperatureAt, pressureOf, degreesOf, temperatureOf, benchOf}
-use Rattle.readings.specs.Place.{Place, Source0, Source1, Source2, Source6, Source7, SourceT2, SourceT6, Status, codeOf, placeOf, readingAt}
+use Rattle.readings.specs.Bench.{benchOf}
+use Rattle.readings.specs.Place.{Place, codeOf, placeOf, readingAt}
 use Rattle.readings.specs.Reading.{pressureText, temperatureText, valueText}
-use Rattle.readings.specs.declared.Pressure.{Pressure}
-use Rattle.readings.specs.declared.Temperature.{Temperature}
 use Rattle.readings.specs.declared.Reading.{Reading}
 use Rattle.readings.specs.declared.Reading.the-variants.{P0, P1, P2, P6, P7, T2, T6, FS}
 use Rattle.readings.specs.declared.Readings.{Readings}
 use Rattle.readings.specs.declared.Bench.{Bench}
 use Rattle.readings.specs.declared.Bench.the-variants.{Reads, BelowRange, AboveRange, Fault}
 use Rattle.readings.specs.declared.Bench.the-variants as bench
-use Rattle.readings.specs.declared.Benched.{Benched}
-use Rattle.readings.specs.declared.Benched.the-variants.{Accepted, Refused}
+use Rattle.readings.specs.declared.Benched.the-variants.{Accepted}
 
 -- the code of the source that a bench setting names; FS has none
 unfoldable pub names : Bench → Option ℕ
@@ -37,54 +23,9 @@ names (AboveRange code) = some code
 names (Fault code) = some code
 names (bench.Status v) = none
 
--- what is accepted stands at the place of this code
-abbrev There : Option ℕ → Benched → Type 0
-There code (Accepted x) = code ≡ codeOf (placeOf x)
-There code Refused = Unit {0}
-
-pressure-there : (code : ℕ) (p : Pressure) → There (some code) (pressureAt code p)
-unfolding pressureAt codeOf placeOf
-pressure-there code p =
-    each (There (some code)) (eqb code 0) _ _ (λ e. ap some (eqb-true code 0 e))
-    (λ _. each (There (some code)) (eqb code 1) _ _ (λ e. ap some (eqb-true code 1 e))
-    (λ _. each (There (some code)) (eqb code 2) _ _ (λ e. ap some (eqb-true code 2 e))
-    (λ _. each (There (some code)) (eqb code 6) _ _ (λ e. ap some (eqb-true code 6 e))
-    (λ _. each (There (some code)) (eqb code 7) _ _ (λ e. ap some (eqb-true code 7 e)) (λ _. tt)))))
-
-temperature-there : (code : ℕ) (t : Temperature) → There (some code) (temperatureAt code t)
-unfolding temperatureAt codeOf placeOf
-temperature-there code t =
-    each (There (some code)) (eqb code 8) _ _ (λ e. ap some (eqb-true code 8 e))
-    (λ _. each (There (some code)) (eqb code 9) _ _ (λ e. ap some (eqb-true code 9 e)) (λ _. tt))
-
-number-there : (code : ℕ) (p : Parsed) → There (some code) (pressureOf code p)
-unfolding pressureOf
-number-there code (Value n) = each (There (some code)) _ _ _ (λ _. tt) (λ _. pressure-there code _)
-number-there code Syntax = tt
-number-there code Range = tt
-
-degrees-there : (code : ℕ) (negative : Bool) (h : Hundredths) → There (some code) (degreesOf code negative h)
-unfolding degreesOf
-degrees-there code negative (Whole h) = each (There (some code)) _ _ _ (λ _. tt) (λ _. temperature-there code _)
-degrees-there code negative Other = tt
-
-celsius-there : (code : ℕ) (p : Parsed) → There (some code) (temperatureOf code p)
-unfolding temperatureOf
-celsius-there code (Value n) = degrees-there code (n .negative) (hundredthsOf n)
-celsius-there code Syntax = tt
-celsius-there code Range = tt
-
-there : (b : Bench) → There (names b) (benchOf b)
-unfolding benchOf names codeOf placeOf
-there (Reads code x) = each (There (some code)) _ _ _ (λ _. celsius-there code _) (λ _. number-there code _)
-there (BelowRange code) = pressure-there code _
-there (AboveRange code) = pressure-there code _
-there (Fault code) = each (There (some code)) _ _ _ (λ _. temperature-there code _) (λ _. pressure-there code _)
-there (bench.Status v) = each (There none) _ _ _ (λ _. tt) (λ _. refl)
-
 -- an accepted bench setting sets the reading of the source that it names, and one for FS sets FS
-pub bench-there : (b : Bench) (x : Reading) → benchOf b ≡ Accepted x → names b ≡ codeOf (placeOf x)
-bench-there b x e = rw e at (there b)
+abbrev pub BenchThere : Type 0
+BenchThere = (b : Bench) (x : Reading) → benchOf b ≡ Accepted x → names b ≡ codeOf (placeOf x)
 
 -- the text of a reading; FS as its digit
 unfoldable pub shownAs : Reading → List ℕ
@@ -98,13 +39,5 @@ shownAs (T6 t) = temperatureText t
 shownAs (FS v) = digit v ∷ []
 
 -- the line shows, for a source's code, what stands at its place
-pub shown-there : (p : Place) (code : ℕ) (r : Readings) → some code ≡ codeOf p → valueText code r ≡ shownAs (readingAt p r)
-unfolding valueText codeOf readingAt shownAs pick
-shown-there Source0 code r e = let k : code ≡ 0 = cc in rw k
-shown-there Source1 code r e = let k : code ≡ 1 = cc in rw k
-shown-there Source2 code r e = let k : code ≡ 2 = cc in rw k
-shown-there Source6 code r e = let k : code ≡ 6 = cc in rw k
-shown-there Source7 code r e = let k : code ≡ 7 = cc in rw k
-shown-there SourceT2 code r e = let k : code ≡ 8 = cc in rw k
-shown-there SourceT6 code r e = let k : code ≡ 9 = cc in rw k
-shown-there Status code r e = let z : _≡_ {A = ℕ} 0 1 = cc in absurd (omega arith)
+abbrev pub ShownThere : Type 0
+ShownThere = (p : Place) (code : ℕ) (r : Readings) → some code ≡ codeOf p → valueText code r ≡ shownAs (readingAt p r)

@@ -5,7 +5,8 @@ use mathlib.Core.Logic.{_↔_}
 use native.Mathlib.Omega.{arith}
 use Rattle.readings.specs.Bench.{benchOf, benchNumber}
 use Rattle.readings.specs.Place.{codeOf, placeOf}
-use Rattle.readings.specs.There.{names, bench-there}
+use Rattle.readings.specs.There.{names}
+use Rattle.readings.proofs.There.{bench-there}
 use Rattle.readings.specs.declared.Reading.{Reading}
 use Rattle.readings.specs.declared.Bench.{Bench}
 use Rattle.readings.specs.declared.Benched.{Benched}

@@ -32,9 +32,10 @@ use Rattle.requests.specs.declared.Command.{Command}
 use Rattle.requests.specs.declared.Command.the-variants.{MV, T2, FN, FS, Of}
 use Rattle.requests.specs.declared.RequestV2.{RequestV2}
 use Rattle.requests.specs.declared.RequestV2.the-variants.{Read, Restore, Set}
-use Rattle.request_texts.specs.RequestText.{accessOf, commandIn, headFor}
+use Rattle.request_texts.specs.RequestText.{headFor}
 use Rattle.printed_facts.specs.Printed.{Printed, join, next, digits3-printed, read-printed}
 use Rattle.printed_facts.specs.Fits.{read-le}
+use Rattle.printed_facts.specs.Sendable.{head-sendable-v2}
 use Rattle.frames_facts.specs.ReadBack.{SendableV2}
 use Rattle.gauge_facts.specs.Request.{DataFor}
 
@@ -140,22 +141,7 @@ data-fits (Set x) list d f = setting-fits x list d (f .0) (f .1) (f .2)
 
 -- ---- the head
 
-command-prints : (c : Command) → (within 32 126 (at (commandText c) 0) ≡ true) × (within 32 126 (at (commandText c) 1) ≡ true)
-unfolding commandText bytes within
-command-prints MV = (refl, refl)
-command-prints T2 = (refl, refl)
-command-prints FN = (refl, refl)
-command-prints FS = (refl, refl)
-command-prints (Of DA) = (refl, refl)
-command-prints (Of DU) = (refl, refl)
-command-prints (Of C1) = (refl, refl)
-command-prints (Of CM) = (refl, refl)
-command-prints (Of CC) = (refl, refl)
-command-prints (Of FC) = (refl, refl)
-command-prints (Of ST) = (refl, refl)
-command-prints (Of SM) = (refl, refl)
-
--- it is two characters
+-- a command is two characters
 pub command-two : (c : Command) → at (commandText c) 0 ∷ at (commandText c) 1 ∷ [] ≡ commandText c
 unfolding commandText bytes
 command-two MV = refl
@@ -171,15 +157,5 @@ command-two (Of FC) = refl
 command-two (Of ST) = refl
 command-two (Of SM) = refl
 
-access-in : (r : RequestV2) → isDigit (accessOf r) ≡ true
-unfolding accessOf within
-access-in (Read c) = refl
-access-in (Restore c) = refl
-access-in (Set x) = refl
-
 pub carried : (a : ℕ) (r : RequestV2) (list d : List ℕ) → within 1 999 a ≡ true → DataFor r list d → SendableV2 (headFor a r) d
-unfolding headFor
-carried a r list d e f =
-    let w = data-fits r list d f in
-    let c = command-prints (commandIn r) in
-    record { address-in = e; access-in = access-in r; first-in = c .0; second-in = c .1; bytes-in = w .printed; few = w .few }
+carried a r list d e f = let w = data-fits r list d f in head-sendable-v2 a r d e (w .printed) (w .few)

@@ -1,18 +1,24 @@
 -- `gauge_rules_v1::enter_factor` meets its contract. An accepted factor fits its field. Assumes nothing.
-use mathlib.Core.Path.{refl, sym, _∙_}
+use mathlib.Core.Path.{_≡_, refl, sym, _∙_}
+use mathlib.Core.Bool.{false}
 use borrow.Author.Needs.{needs}
 use borrow.Author.Tests.{eq-eqb, ne-eqb}
 use native.Mathlib.Omega.{arith}
+use lib.Dec.{eqb}
 use Rattle.buffer.specs.First.{pick}
 use Rattle.buffer.proofs.Laws.{within-true}
 use Rattle.sources.specs.Source.{listOf, Counted}
+use Rattle.gauge_rules_v1.specs.RulesV1.{factorNumber}
 use Rattle.gauge_rules_v1.proofs.Laws.{factor-in}
 use Rattle.gauge_rules_v1.proofs.enter_factor.Statement.{statement}
 use Rattle.gauge_rules_v1.proofs.enter_factor.Tie as tie
 
 returns : tie.Need-returns
 unfolding pick
-returns c = (rw (ne-eqb _ 0 (λ z. c .if1 .taken (c .before .factor-number .ensures ∙ z))), λ n. n)
+returns c =
+    let a = c .before .before .args in
+    let e : eqb (factorNumber (a .unlocked) (a .n)) 0 ≡ false = ne-eqb _ 0 (λ z. c .if1 .taken (c .before .factor-number .ensures ∙ z)) in
+    (rw e, λ n. n)
 
 cast-t6 : tie.Need-cast-t6
 cast-t6 c =

@@ -21,7 +21,8 @@ use Rattle.readings.specs.declared.Readings.{Readings}
 use Rattle.readings.proofs.Laws.{shown, value-clean}
 use Rattle.readings_facts.specs.Sound.{SoundReadings}
 use Rattle.readings.specs.Place.{Place, Source0, Source1, Source2, Source6, Source7, SourceT2, SourceT6, codeOf, readingAt}
-use Rattle.readings.specs.There.{shownAs, shown-there}
+use Rattle.readings.specs.There.{shownAs}
+use Rattle.readings.proofs.There.{shown-there}
 use Rattle.forms_facts.specs.Codes.{Short}
 use Rattle.forms_facts.specs.Lemmas.Lacks.{split}
 use Rattle.forms_facts.specs.Lemmas.Texts.{of-each}

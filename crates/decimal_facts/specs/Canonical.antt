@@ -1,8 +1,10 @@
--- Document 01, "Decimal numbers": canonical numbers, and which values have one. Assumes nothing.
+-- Document 01, "Decimal numbers": canonical numbers, and which values have one.
 use mathlib.Core.Path.{_≡_}
 use mathlib.Core.Logic.{_⊎_}
 use Prim.Native.Nat.{ℕ, _+_, _*_, _^_, _<_, _≤_}
+use mathlib.Core.List.{List, []}
 use Rattle.decimal.specs.Exact.{units, zeroNumber}
+use Rattle.decimal_text.specs.Written.{writtenOf}
 use Rattle.decimal.specs.declared.Number.{Number}
 use Rattle.decimal.specs.declared.Exact.{Exact}
 use Rattle.decimal.specs.declared.Parsed.{Parsed}
@@ -32,6 +34,10 @@ TooSmall x = x .digits * 10 ^ (x .up + 9) < 10 ^ x .down
 abbrev pub TooLarge : Exact → Type 0
 TooLarge x = 10 ^ (x .down + 10) ≤ x .digits * 10 ^ x .up
 
+-- the value is not zero, and its first nonzero digit stands below 10^-9 or above 10^9
+abbrev pub OutOfRange : Exact → Type 0
+OutOfRange x = (0 < x .digits) × (TooSmall x ⊎ TooLarge x)
+
 -- d is at most six digits, and zeros
 abbrev pub SixDigits : ℕ → Type 0
 SixDigits d = (m : ℕ) × (k : ℕ) × (m < 10 ^ 6) × (d ≡ m * 10 ^ k)
@@ -42,3 +48,9 @@ pub data Answers (x : Exact) : Parsed → Type 0 where
   number : (n : Number) → 0 < x .digits → Exactly x n → Answers x (Value n)
   outside : 0 < x .digits → SixDigits (x .digits) → TooSmall x ⊎ TooLarge x → Answers x Range
   uneven : 0 < x .digits → (SixDigits (x .digits) → ⊥) → Answers x Syntax
+
+-- what a text is sent as, once read
+abbrev pub sentOf : Parsed → List ℕ
+sentOf (Value n) = writtenOf n
+sentOf Syntax = []
+sentOf Range = []

@@ -1,4 +1,4 @@
--- Document 01, "Decimal numbers": the form as a grammar, and the value of a text of the form. Assumes nothing.
+-- Document 01, "Decimal numbers": the form as a grammar, and the value of a text of the form.
 use mathlib.Core.Path.{_≡_}
 use mathlib.Core.Bool.{Bool, true, cond}
 use mathlib.Core.List.{List, [], _∷_, _++_}

@@ -6,8 +6,8 @@ use Prim.Native.Nat.{ℕ, _+_, _<_}
 use native.Mathlib.Omega.{arith}
 use Rattle.buffer.specs.Byte.{digit}
 use Rattle.decimal_text.specs.Written.{writtenOf, twoDecimals}
-use Rattle.decimal_facts.specs.RoundTrip.{written-reads, hundredths-read}
-use Rattle.decimal_facts.specs.Value.{hundredths-exactly}
+use Rattle.decimal_facts.proofs.RoundTrip.{written-reads, hundredths-read}
+use Rattle.decimal_facts.proofs.Value.{hundredths-exactly}
 use Rattle.settings.specs.Settings.{Held, keyOf}
 use Rattle.settings.specs.Sent.{transitionText, streamText, readText}
 use Rattle.settings.specs.declared.Transition.{Transition}

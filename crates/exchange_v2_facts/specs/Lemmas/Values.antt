@@ -16,7 +16,7 @@ use Rattle.decimal.specs.declared.Number.{Number}
 use Rattle.decimal.specs.declared.Parsed.the-variants.{Value, Syntax}
 use Rattle.decimal_text.specs.Written.{signText, wholeText, writtenOf, twoDecimals}
 use Rattle.decimal_facts.specs.Canonical.{Canonical}
-use Rattle.decimal_facts.specs.RoundTrip.{written-reads, hundredths-read}
+use Rattle.decimal_facts.proofs.RoundTrip.{written-reads, hundredths-read}
 use Rattle.sources.specs.Entries.{sourceTexts, entriesOf, entriesList}
 use Rattle.settings.specs.Settings.{Held}
 use Rattle.settings.specs.Sent.{streamText, readText}

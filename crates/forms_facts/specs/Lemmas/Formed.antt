@@ -32,7 +32,7 @@ use Rattle.settings.specs.declared.Key.{Key}
 use Rattle.settings.specs.declared.Key.the-variants.{DA, DU, C1, CM, CC, FC, ST, SM}
 use Rattle.settings.specs.declared.Setting.{Setting}
 use Rattle.settings.specs.declared.Setting.the-variants.{Address, PressureIn, Factor, Control, Cathode, Filament, Switch, Stream}
-use Rattle.decimal_facts.specs.Value.{hundredths-exactly}
+use Rattle.decimal_facts.proofs.Value.{hundredths-exactly}
 use Rattle.forms.specs.Forms.{addressData, unitData, factorIn, factorOf, digitData, digitOf, limitedOf, directOf, betweenOf, endsOf, transitionOf, transitionData, idleList, knownMode, streamOf, streamData}
 use Rattle.forms.specs.Judged.{verdictOf}
 use Rattle.forms.specs.declared.Ends.{Ends}

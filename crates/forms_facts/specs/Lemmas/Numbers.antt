@@ -16,7 +16,7 @@ use Rattle.decimal.specs.declared.Scan.the-variants.{Of, NoForm}
 use Rattle.decimal.specs.declared.Parsed.the-variants.{Value}
 use Rattle.decimal_facts.specs.Grammar.{Parts, Good, dash, point, exponent, textOf}
 use Rattle.decimal_facts.specs.Canonical.{Canonical}
-use Rattle.decimal_facts.specs.Accepts.{sound, no-form, value-exactly}
+use Rattle.decimal_facts.proofs.Accepts.{sound, no-form, value-exactly}
 use Rattle.forms_facts.specs.Lemmas.Lacks.{lacks, split, lacks-append}
 
 -- a text that is read is of the form

@@ -16,7 +16,7 @@ use Rattle.decimal.specs.declared.Hundredths.{Hundredths}
 use Rattle.decimal.specs.declared.Hundredths.the-variants.{Whole, Other}
 use Rattle.decimal.proofs.Sizes.{units-pos}
 use Rattle.decimal_facts.specs.Canonical.{Canonical}
-use Rattle.decimal_facts.specs.Value.{exact, hundredths-exactly}
+use Rattle.decimal_facts.proofs.Value.{exact, hundredths-exactly}
 use Rattle.readings.specs.Bench.{takes, pressureAt, temperatureAt, pressureOf, degreesOf, temperatureOf, benchOf}
 use Rattle.readings.specs.declared.Pressure.{Pressure}
 use Rattle.readings.specs.declared.Pressure.the-variants.{Measured, Under, Over, Faulty}

@@ -19,9 +19,9 @@ use Rattle.decimal.specs.declared.Hundredths as counts
 use Rattle.decimal.specs.declared.Hundredths.the-variants.{Whole, Other}
 use Rattle.decimal.proofs.Sizes.{ten-pos, units-pos}
 use Rattle.decimal_facts.specs.Canonical.{Canonical, Exactly}
-use Rattle.decimal_facts.specs.Value.{answers, exact, hundredths-exactly}
-use Rattle.decimal_facts.specs.Lemmas.Rows.{canonical-same}
-use Rattle.decimal_facts.specs.Lemmas.Texts.{decimals-count}
+use Rattle.decimal_facts.proofs.Value.{answers, exact, hundredths-exactly}
+use Rattle.decimal_facts.proofs.Lemmas.Rows.{canonical-same}
+use Rattle.decimal_facts.proofs.Lemmas.Texts.{decimals-count}
 use Rattle.readings.specs.Bench.{takes, pressureAt, temperatureAt, pressureOf, degreesOf, temperatureOf, benchOf}
 use Rattle.readings.specs.Place.{Place, Source0, Source1, Source2, Source6, Source7, SourceT2, SourceT6, codeOf, placeOf, readingAt}
 use Rattle.readings.specs.Place as place

@@ -16,7 +16,7 @@ use Rattle.decimal.specs.Number.{belowOf}
 use Rattle.decimal.specs.declared.Number.{Number}
 use Rattle.decimal.specs.declared.Parsed.the-variants.{Value}
 use Rattle.decimal.specs.declared.Hundredths.the-variants.{Whole}
-use Rattle.decimal_facts.specs.Value.{exact}
+use Rattle.decimal_facts.proofs.Value.{exact}
 use Rattle.frames.specs.Frame.{addressOf, wrongAddress}
 use Rattle.frames.specs.declared.HeadV2.{HeadV2}
 use Rattle.sources.specs.Source.{knownSources, among, mostEntries, listOf, Counted}

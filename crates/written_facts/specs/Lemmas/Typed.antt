@@ -20,7 +20,7 @@ use Rattle.decimal.specs.declared.Parsed.{Parsed}
 use Rattle.decimal.specs.declared.Parsed.the-variants.{Value, Syntax, Range}
 use Rattle.decimal.specs.declared.Hundredths.the-variants.{Whole}
 use Rattle.decimal_facts.specs.Canonical.{Exactly}
-use Rattle.decimal_facts.specs.Value.{exact}
+use Rattle.decimal_facts.proofs.Value.{exact}
 use Rattle.sources.specs.Source.{knownSources, among, mostEntries, listOf}
 use Rattle.sources.specs.declared.Sources.{Sources}
 use Rattle.settings.specs.Limits.{standard}

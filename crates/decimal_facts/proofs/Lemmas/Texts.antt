@@ -1,4 +1,4 @@
--- Lemmas on the texts that are sent: each is a text of the form, and its value. Assumes nothing.
+-- Lemmas on the texts that are sent: each is a text of the form, and its value.
 use mathlib.Core.Path.{_≡_, refl, sym, _∙_}
 use mathlib.Core.Bool.{Bool, true, false, cond, _&&_}
 use mathlib.Core.List.{List, [], _∷_, _++_, append-assoc, append-nil}
@@ -23,9 +23,9 @@ use Rattle.decimal_text.specs.Written.{signText, trimmed, pointed, digits5, exp
 use Rattle.decimal_text.proofs.Laws.{trim-le}
 use Rattle.decimal_facts.specs.Grammar.{Parts, Good, dash, point, exponent, textOf, meaning}
 use Rattle.decimal_facts.specs.Canonical.{Full, Exactly, Answers, nothing, number, outside, uneven}
-use Rattle.decimal_facts.specs.Lemmas.Digits.{both-left, both-right, numeral-append}
-use Rattle.decimal_facts.specs.Lemmas.Powers.{moved-same}
-use Rattle.decimal_facts.specs.Lemmas.Rows.{hundredths-of}
+use Rattle.decimal_facts.proofs.Lemmas.Digits.{both-left, both-right, numeral-append}
+use Rattle.decimal_facts.proofs.Lemmas.Powers.{moved-same}
+use Rattle.decimal_facts.proofs.Lemmas.Rows.{hundredths-of}
 
 -- ---- the written form
 

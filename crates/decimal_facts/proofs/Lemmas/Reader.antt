@@ -1,4 +1,4 @@
--- Lemmas on the reader: each part of the form is read, and only that. Assumes nothing.
+-- Lemmas on the reader: each part of the form is read, and only that.
 use mathlib.Core.Path.{_≡_, refl, _∙_}
 use mathlib.Core.Bool.{Bool, true, false, cond, not, _||_, true≢false}
 use mathlib.Core.List.{List, [], _∷_, _++_, append-nil, append-assoc}
@@ -18,7 +18,7 @@ use Rattle.decimal.specs.declared.Scan.{Scan}
 use Rattle.decimal.specs.declared.Scan.the-variants.{Of, NoForm}
 use Rattle.decimal.proofs.Laws.{leading-le}
 use Rattle.decimal_facts.specs.Grammar.{Parts, Good, dash, point, exponent, textOf, meaning}
-use Rattle.decimal_facts.specs.Lemmas.Digits.{digit-low, both-left, leading-at, leading-digits, leading-length, numeral-append, passed}
+use Rattle.decimal_facts.proofs.Lemmas.Digits.{digit-low, both-left, leading-at, leading-digits, leading-length, numeral-append, passed}
 
 -- ---- from the form to the reader
 

@@ -1,4 +1,4 @@
--- Lemmas on powers of ten and on how many digits a number has. Assumes nothing.
+-- Lemmas on powers of ten and on how many digits a number has.
 use mathlib.Core.Path.{_≡_, refl, sym, ap, _∙_}
 use mathlib.Core.Bool.{Bool, true, false}
 use Prim.Native.Nat.{ℕ, suc, _+_, _-_, _*_, _^_, _%_, _<_, _≤_}

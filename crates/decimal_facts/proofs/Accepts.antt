@@ -1,29 +1,28 @@
--- Document 01, "Decimal numbers": the reader accepts exactly the texts of the form, each with its exact value. Assumes nothing.
+-- Document 01, "Decimal numbers": the reader accepts exactly the texts of the form, each with its exact value.
 use mathlib.Core.Path.{_≡_, refl, sym, _∙_}
 use mathlib.Core.List.{List, _++_, append-assoc}
-use mathlib.Core.Logic.{_⊎_, _↔_}
+use mathlib.Core.Logic.{_↔_}
 use Prim.Native.Nat.{ℕ, _^_, _<_, _≤_}
 use native.Mathlib.Omega.{arith}
 use lib.ListN.{length, length-append}
 use lib.Seq.{take-length}
 use Rattle.decimal.specs.Form.{scanOf, answerOf, numberOf}
-use Rattle.decimal.specs.Exact.{zeroNumber, normalOf}
-use Rattle.decimal.specs.declared.Exact.{Exact}
-use Rattle.decimal.specs.declared.Number.{Number}
+use Rattle.decimal.specs.Exact.{normalOf}
 use Rattle.decimal.specs.declared.Scan.{Scan}
 use Rattle.decimal.specs.declared.Scan.the-variants.{Of, NoForm}
 use Rattle.decimal.specs.declared.Parsed.{Parsed}
-use Rattle.decimal.specs.declared.Parsed.the-variants.{Value, Syntax, Range}
+use Rattle.decimal.specs.declared.Parsed.the-variants.{Syntax, Range}
 use Rattle.buffer.proofs.Laws.{ten-max}
 use Rattle.decimal.proofs.Laws.{numeral-front}
 use Rattle.decimal_facts.specs.Grammar.{Parts, Good, dash, point, exponent, textOf, meaning}
-use Rattle.decimal_facts.specs.Canonical.{Exactly, TooSmall, TooLarge}
-use Rattle.decimal_facts.specs.Value.{exact, range, is-zero, no-syntax}
-use Rattle.decimal_facts.specs.Lemmas.Digits.{every-append}
-use Rattle.decimal_facts.specs.Lemmas.Reader.{leading-all, no-dash, signed, unsigned-reads, shape}
+use Rattle.decimal_facts.specs.Canonical.{OutOfRange}
+use Rattle.decimal_facts.proofs.Value.{exact, range, is-zero, no-syntax}
+use Rattle.decimal_facts.proofs.Lemmas.Digits.{every-append}
+use Rattle.decimal_facts.proofs.Lemmas.Reader.{leading-all, no-dash, signed, unsigned-reads, shape}
+use Rattle.decimal_facts.specs.Theorems.{Complete, Sound, SyntaxExactly, ValueExactly, ZeroExactly, RangeExactly}
 
 -- Each text of the form is read, as its value.
-pub complete : (p : Parts) → Good p → scanOf (textOf p) ≡ Of (meaning p)
+pub complete : Complete
 unfolding textOf
 complete p g =
     let t = point (p .fraction) ++ exponent (p .mark) (p .below) (p .power) in
@@ -32,7 +31,7 @@ complete p g =
     ∙ unsigned-reads (p .whole) (p .fraction) (p .mark) (p .below) (p .power) (p .negative) g)
 
 -- And what is read is a text of the form, with that value.
-pub sound : (s : List ℕ) (x : Exact) → scanOf s ≡ Of x → (p : Parts) × Good p × (textOf p ≡ s) × (meaning p ≡ x)
+pub sound : Sound
 sound s x e =
     let w = shape s x e in
     let t : textOf (w .0) ≡ s = w .2 in
@@ -58,7 +57,7 @@ unfolding numberOf answerOf
 no-form s e = rw e
 
 -- SYNTAX is answered exactly where the text is not of the form
-pub syntax-exactly : (s : List ℕ) → (numberOf s ≡ Syntax) ↔ ((p : Parts) → Good p → textOf p ≡ s → ⊥)
+pub syntax-exactly : SyntaxExactly
 syntax-exactly s =
     (λ e p g t. no-syntax (meaning p) (form-six p g) (sym (form-reads p g) ∙ rw t e), λ n. go n (scanOf s) refl)
   where
@@ -75,16 +74,12 @@ of-form s r e n = go (scanOf s) refl
     go NoForm k = absurd (n (sym e ∙ no-form s k))
 
 -- a number is answered exactly where it is the canonical number of the text's value
-pub value-exactly : (p : Parts) (n : Number) → Good p → (numberOf (textOf p) ≡ Value n) ↔ Exactly (meaning p) n
+pub value-exactly : ValueExactly
 value-exactly p n g = rw (form-reads p g) (exact (meaning p) n)
 
 -- "`-0` is zero.": zero is answered exactly where the digits before the exponent spell 0, whatever sign, point and exponent
-pub zero-exactly : (p : Parts) → Good p → (numberOf (textOf p) ≡ Value zeroNumber) ↔ (meaning p .digits ≡ 0)
+pub zero-exactly : ZeroExactly
 zero-exactly p g = rw (form-reads p g) (is-zero (meaning p))
-
--- the value is not zero, and its first nonzero digit stands below 10^-9 or above 10^9
-abbrev pub OutOfRange : Exact → Type 0
-OutOfRange x = (0 < x .digits) × (TooSmall x ⊎ TooLarge x)
 
 -- RANGE is answered exactly where the value is out of range
 pub form-range : (p : Parts) → Good p → (numberOf (textOf p) ≡ Range) ↔ OutOfRange (meaning p)
@@ -93,7 +88,7 @@ form-range p g =
     (λ e. let w = range (meaning p) .0 e in (w .0, w .2), λ w. range (meaning p) .1 (w .0, (meaning p .digits, 0, form-six p g, omega arith), w .1))
 
 -- and of no other text
-pub range-exactly : (s : List ℕ) → (numberOf s ≡ Range) ↔ ((p : Parts) × Good p × (textOf p ≡ s) × OutOfRange (meaning p))
+pub range-exactly : RangeExactly
 range-exactly s = (
   λ e. let w = of-form s Range e no in (w .0, w .1, w .2, form-range (w .0) (w .1) .0 (form-reads (w .0) (w .1) ∙ w .3)),
   λ w. let e : textOf (w .0) ≡ s = w .2 in rw (← e) (form-range (w .0) (w .1) .1 (w .3)),

@@ -1,4 +1,4 @@
--- Lemmas on the rows of `normalOf`, on canonical numbers and on hundredths. Assumes nothing.
+-- Lemmas on the rows of `normalOf`, on canonical numbers and on hundredths.
 use mathlib.Core.Path.{_≡_, refl, sym, ap, _∙_}
 use mathlib.Core.Bool.{Bool, true, false, cond, not}
 use mathlib.Core.Logic.{_⊎_, inl, inr}
@@ -20,7 +20,7 @@ use Rattle.decimal.specs.declared.Parsed.{Parsed}
 use Rattle.decimal.specs.declared.Parsed.the-variants.{Value, Syntax, Range}
 use Rattle.decimal.proofs.Sizes.{ten-pos, size-low, size-high, units-pos}
 use Rattle.decimal_facts.specs.Canonical.{Full, Canonical, Exactly, TooSmall, TooLarge, SixDigits, Answers, nothing, number, outside, uneven}
-use Rattle.decimal_facts.specs.Lemmas.Powers.{six-low, six-high, six-same, six-equal, six-divides, small, large, not-small, not-large, units-low, units-high, same-place, same-mantissa}
+use Rattle.decimal_facts.proofs.Lemmas.Powers.{six-low, six-high, six-same, six-equal, six-divides, small, large, not-small, not-large, units-low, units-high, same-place, same-mantissa}
 
 -- ---- the rows of `normalOf`
 

@@ -1,4 +1,4 @@
--- Lemmas on digits, numerals and ordered tests. Assumes nothing.
+-- Lemmas on digits, numerals and ordered tests.
 use mathlib.Core.Path.{_≡_, refl, sym, _∙_}
 use mathlib.Core.Bool.{Bool, true, false, cond, _&&_, true≢false}
 use mathlib.Core.List.{List, [], _∷_, _++_}

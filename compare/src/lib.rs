@@ -6,6 +6,7 @@ pub mod random;
 pub mod replay;
 pub mod script;
 pub mod text;
+pub mod typed;
 
 /// Puts the bytes at the start of the memory; the bytes after them stay.
 pub fn place(bytes: &[u8], memory: &mut [u8]) -> usize {

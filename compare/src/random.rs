@@ -8,6 +8,8 @@ use crate::text::request::{read_request, COMMANDS};
 use crate::text::SOURCES;
 use std::collections::VecDeque;
 
+mod writes;
+
 /// An xorshift generator.
 pub struct Random(u64);
 
@@ -110,7 +112,7 @@ impl Generator {
 
     /// Puts one call, or a few that belong together, into the queue.
     fn invent(&mut self) {
-        match self.random.below(200) {
+        match self.random.below(220) {
             0 => self.push("restart".to_string()),
             1 => self.malformed(),
             2..=11 => self.sequence(),
@@ -124,7 +126,8 @@ impl Generator {
             128..=145 => self.request_call(),
             146..=155 => self.opg_request_call(),
             156..=183 => self.reply_call(),
-            _ => self.opg_reply_call(),
+            184..=199 => self.opg_reply_call(),
+            _ => self.write_call(),
         }
     }
 
@@ -139,7 +142,13 @@ impl Generator {
 
     /// Lines that are plainly no calls.
     fn malformed(&mut self) {
-        let line = self.random.pick(&["rest", "text 64", "text 64 3", "text 64 XY", "opg 257 -", "read MV", "reply 1 -"]);
+        let line = self.random.pick(&[
+            "rest", "text 64", "text 64 3", "text 64 XY", "opg 257 -", "read MV", "reply 1 -", "", " ", "restart ", " restart",
+            "text  64 -", "text 64 - ", "line 0064", "line 64\r", "opgbench 3f8000", "opgbench 3f80000000", "opgbench nine",
+            "reply 65536 - -", "reply 000001 - -", "write2", "write2 109 1", "write1 109 1", "writeopg 32", "writeopg",
+            "write2 109 1 SM 4 0", "write2 109 1 SM 5 0 0 0 0 0 0 0 0", "write2 109 1 ST D 5 14", "write1 109 1 c", "bench 0",
+            "1 2 3 4 5 6 7 8 9 10 11 12 13 14 15 16 17 18",
+        ]);
         self.push(line.to_string());
     }
 

@@ -17,6 +17,9 @@
 //! - `reply` reads the typed request with the request reader; its address is
 //!   not compared with ADDRESS.
 //! - `opgrequest` and `request` print the writer's number (20 and 0).
+//! - `write2`, `write1` and `writeopg` hand the writer a typed request
+//!   (`typed.rs`), of values that no reader gives too. A number has at most as
+//!   many digits as its limit, leading zeros included.
 //! - A last line without LF counts as a line, unless it is empty. The bytes of
 //!   a line that are not UTF-8 make it malformed (they fit no word).
 
@@ -24,6 +27,7 @@ use crate::opg::{self, OpgGauge};
 use crate::text::decimal::Decimal;
 use crate::text::gauge::{BenchValue, TextGauge};
 use crate::text::{self, master, request};
+use crate::typed;
 
 /// The byte that fills the answer memory before each call.
 pub const FILL: u8 = 0xA5;
@@ -36,6 +40,16 @@ pub struct World {
 impl World {
     pub fn start() -> World {
         World { text: TextGauge::start(), opg: OpgGauge::start() }
+    }
+
+    /// Runs a script: what is printed, each line with its LF.
+    pub fn print(&mut self, script: &[u8]) -> Vec<u8> {
+        let mut output = Vec::new();
+        for line in lines_of(script) {
+            output.extend(self.run(&String::from_utf8_lossy(line)).into_bytes());
+            output.push(b'\n');
+        }
+        output
     }
 
     /// Runs one line and gives the line to print.
@@ -68,9 +82,15 @@ impl World {
             ["request", hex] => Some(rewrite_text(&read_hex(hex)?)),
             ["opgrequest", hex] => Some(rewrite_opg(&read_hex(hex)?)),
             ["reply", address, request, reply] => {
-                Some(read_text_reply(read_number(address, 5, 65535)?, &read_hex(request)?, &read_hex(reply)?))
+                Some(read_text_reply(read_address(address)?, &read_hex(request)?, &read_hex(reply)?))
             }
             ["opgreply", request, reply] => Some(read_opg_reply(&read_hex(request)?, &read_hex(reply)?)),
+            ["write2", lent, address, ref words @ ..] => write_text(lent, address, &typed::v2(words)?),
+            ["write1", lent, address, ref words @ ..] => write_text(lent, address, &typed::v1(words)?),
+            ["writeopg", lent, ref words @ ..] => {
+                let request = typed::opg(words)?;
+                Some(answered(read_lent(lent)?, |memory| opg::write(request, memory)))
+            }
             _ => None,
         }
     }
@@ -89,6 +109,15 @@ impl World {
     }
 }
 
+/// The lines between the LFs; an unfinished last one counts unless empty.
+pub fn lines_of(bytes: &[u8]) -> Vec<&[u8]> {
+    let mut lines: Vec<&[u8]> = bytes.split(|byte| *byte == b'\n').collect();
+    if lines.last().is_some_and(|line| line.is_empty()) {
+        lines.pop();
+    }
+    lines
+}
+
 /// Lends memory to a call and prints what it gave.
 fn answered(lent: usize, call: impl FnOnce(&mut [u8]) -> (u16, usize)) -> String {
     let mut memory = vec![FILL; lent];
@@ -96,6 +125,12 @@ fn answered(lent: usize, call: impl FnOnce(&mut [u8]) -> (u16, usize)) -> String
     let (reply, rest) = memory.split_at(length);
     let changed = if rest.iter().all(|byte| *byte == FILL) { "" } else { " changed" };
     format!("{number} {length} {}{changed}", to_hex(reply))
+}
+
+/// Writes a typed request of V2 or V1.
+fn write_text(lent: &str, address: &str, request: &request::Request) -> Option<String> {
+    let address = read_address(address)?;
+    Some(answered(read_lent(lent)?, |memory| master::write(address, request, memory)))
 }
 
 fn rewrite_text(bytes: &[u8]) -> String {
@@ -167,16 +202,20 @@ fn hex_digit(byte: u8) -> Option<u8> {
     }
 }
 
-/// Decimal digits, at most so many, up to the limit.
-fn read_number(word: &str, most_digits: usize, limit: u32) -> Option<u32> {
+/// Decimal digits, at most so many (and never over 18), up to the limit.
+pub fn read_number(word: &str, most_digits: usize, limit: u64) -> Option<u64> {
     if !text::all_digits(word.as_bytes()) || word.len() > most_digits {
         return None;
     }
-    Some(text::number_of(word.as_bytes())).filter(|number| *number <= limit)
+    word.parse().ok().filter(|number| *number <= limit)
 }
 
 fn read_lent(word: &str) -> Option<usize> {
     read_number(word, 3, 256).map(|number| number as usize)
+}
+
+fn read_address(word: &str) -> Option<u32> {
+    read_number(word, 5, 65535).map(|number| number as u32)
 }
 
 /// The outer None: malformed. The inner None: unavailable.

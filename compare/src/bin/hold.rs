@@ -2,21 +2,21 @@
 //! and the CRC to the reference, on at least CALLS random and damaged calls of
 //! each gauge (a million where none is given). Each sequence begins at factory
 //! settings; numbers, lengths and every byte of the lent memory are compared.
-//! Then it holds the program `replay`, where it is built, to the reference on
-//! CALLS random lines: so the reply readers too.
+//! Then it holds the program `replay` to the reference on CALLS random lines,
+//! byte for byte: so the reply readers and the writers' own refusals too.
+//! Where a part is missing, or nothing of a part was compared, it fails.
 
 #[path = "../proved.rs"]
 mod proved;
 
 use compare::opg;
 use compare::random::{Generator, Random};
-use compare::replay::{read_hex, to_hex, World};
+use compare::replay::{lines_of, read_hex, to_hex, World};
 use compare::script::{self, Gauges, To};
 use compare::text::{master, request};
 use std::collections::BTreeMap;
 use std::io::{self, Write};
-use std::path::Path;
-use std::process::{Command, Stdio};
+use std::process::{Command, Output, Stdio};
 
 /// The calls of a sequence.
 const LINES: usize = 400;
@@ -35,6 +35,8 @@ struct Counts {
     disagreements: usize,
     /// How often each number was answered.
     numbers: BTreeMap<u16, usize>,
+    /// How often a typed request got each number, by `replay`.
+    written: BTreeMap<u16, usize>,
 }
 
 /// What a sequence of lines comes to: a script, and requests to rewrite.
@@ -45,10 +47,26 @@ struct Sequence {
     opg_requests: Vec<Vec<u8>>,
 }
 
+/// The numbers that a writer answers.
+const WRITTEN: [u16; 10] = [0, 1, 4, 9, 10, 11, 12, 20, 21, 1002];
+/// From so many lines on, each of them is to come up.
+const ENOUGH: usize = 50_000;
+/// The fewest lines that `replay` plays.
+const FEWEST: usize = 2000;
+
 fn main() {
-    let words: Vec<u64> = std::env::args().skip(1).filter_map(|word| word.parse().ok()).collect();
-    let least = words.first().map_or(1_000_000, |count| *count as usize);
-    let first_seed = words.get(1).copied().unwrap_or(1);
+    let (least, first_seed) = match asked() {
+        Some((calls, seed)) if calls > 0 => (calls as usize, seed),
+        _ => {
+            eprintln!("usage: hold [CALLS [SEED]], at least one call");
+            std::process::exit(2);
+        }
+    };
+    let program = concat!(env!("CARGO_MANIFEST_DIR"), "/../target/bin/replay");
+    if !std::path::Path::new(program).is_file() {
+        eprintln!("hold: the program replay is not built (rt check replay): {program}");
+        std::process::exit(1);
+    }
     let mut counts = Counts::default();
     let mut random = Random::new(first_seed);
     while counts.text < least || counts.opg < least {
@@ -57,22 +75,59 @@ fn main() {
         hold(&mut counts, &mut random, seed, sequence);
         counts.sequences += 1;
     }
+    if let Err(error) = hold_replay(&mut counts, program, first_seed, least.max(FEWEST)) {
+        counts.disagreements += 1;
+        println!("the program replay could not be run: {error}");
+    }
+    report(&counts);
+    let whole = all_compared(&counts, least);
+    std::process::exit(i32::from(counts.disagreements != 0 || !whole));
+}
+
+/// The two words, or a million calls and seed 1; None where one is no number.
+fn asked() -> Option<(u64, u64)> {
+    let words: Vec<String> = std::env::args().skip(1).collect();
+    match &words[..] {
+        [] => Some((1_000_000, 1)),
+        [calls] => Some((calls.parse().ok()?, 1)),
+        [calls, seed] => Some((calls.parse().ok()?, seed.parse().ok()?)),
+        _ => None,
+    }
+}
+
+fn report(counts: &Counts) {
     println!("sequences from factory settings: {}", counts.sequences);
     println!("calls of the text gauge: {}; of the OPG: {}", counts.text, counts.opg);
     println!("answers by number: {}", listed(&counts.numbers));
     println!("text requests read and written again: {}", counts.requests);
     println!("OPG requests read and written again: {}", counts.opg_requests);
     println!("CRCs: {}", counts.crcs);
-    let program = concat!(env!("CARGO_MANIFEST_DIR"), "/../target/bin/replay");
-    if !Path::new(program).exists() {
-        println!("the program replay is not built (rt check replay)");
-    } else if let Err(error) = hold_replay(&mut counts, program, first_seed, least) {
-        counts.disagreements += 1;
-        println!("the program replay could not be run: {error}");
-    }
     println!("lines of scripts, by the program replay: {}", counts.lines);
+    println!("typed requests written, by number: {}", listed(&counts.written));
     println!("disagreements: {}", counts.disagreements);
-    std::process::exit(i32::from(counts.disagreements != 0));
+}
+
+/// Whether something of each part was compared; says what was not.
+fn all_compared(counts: &Counts, least: usize) -> bool {
+    let parts = [
+        ("calls of the text gauge", counts.text),
+        ("calls of the OPG", counts.opg),
+        ("text requests", counts.requests),
+        ("OPG requests", counts.opg_requests),
+        ("CRCs", counts.crcs),
+        ("lines of replay", counts.lines),
+        ("typed requests", counts.written.values().sum()),
+    ];
+    let mut missing: Vec<String> =
+        parts.iter().filter(|(_, count)| *count == 0).map(|(part, _)| part.to_string()).collect();
+    if least >= ENOUGH {
+        let absent = WRITTEN.iter().filter(|number| !counts.written.contains_key(number));
+        missing.extend(absent.map(|number| format!("a writer's {number}")));
+    }
+    for part in &missing {
+        println!("not compared: {part}");
+    }
+    missing.is_empty()
 }
 
 /// The calls of one generator, from factory settings to the first restart.
@@ -131,26 +186,49 @@ fn raw_bench(script: &mut Vec<u8>, random: &mut Random) {
     script.extend([random.pick(&places), random.pick(&places)]);
 }
 
-/// Plays random lines on the program and on the reference.
+/// Plays random lines on the program and on the reference. What is printed is
+/// compared as bytes, to the last one, and nothing may be said of a failure.
+/// Under an even seed the last line has no LF.
 fn hold_replay(counts: &mut Counts, program: &str, seed: u64, lines: usize) -> io::Result<()> {
     let mut generator = Generator::new(seed);
-    let script: Vec<String> = (0..lines).map(|_| generator.call()).collect();
-    let mut child = Command::new(program).stdin(Stdio::piped()).stdout(Stdio::piped()).spawn()?;
-    let mut input = child.stdin.take().ok_or(io::ErrorKind::BrokenPipe)?;
-    let text = script.join("\n");
-    let writer = std::thread::spawn(move || input.write_all(text.as_bytes()));
-    let output = child.wait_with_output()?;
-    writer.join().map_err(|_| io::ErrorKind::Other)??;
-    let output = String::from_utf8_lossy(&output.stdout);
-    let answers: Vec<&str> = output.lines().collect();
-    note(counts, answers.len() == lines, || format!("{} lines answered of {lines}", answers.len()));
-    let mut world = World::start();
-    for (line, answer) in script.iter().zip(answers) {
-        let agree = world.run(line) == answer;
-        note(counts, agree, || format!("line {line}: {answer}"));
+    let mut script = (0..lines).map(|_| generator.call()).collect::<Vec<String>>().join("\n").into_bytes();
+    if seed % 2 == 1 {
+        script.push(b'\n');
+    }
+    let output = run(program, script.clone())?;
+    note(counts, output.status.success() && output.stderr.is_empty(), || {
+        format!("replay ended so: {}, {}", output.status, String::from_utf8_lossy(&output.stderr))
+    });
+    let expected = World::start().print(&script);
+    let (calls, answers, rights) = (lines_of(&script), lines_of(&output.stdout), lines_of(&expected));
+    for (at, right) in rights.iter().enumerate() {
+        let (call, answer) = (calls[at], answers.get(at).copied());
+        note(counts, answer == Some(right), || format!("line {}: {}", shown(call), answer.map_or("none".into(), shown)));
+        if call.starts_with(b"write") && *right != b"?" {
+            let number = shown(right).split(' ').next().and_then(|word| word.parse().ok()).unwrap_or(u16::MAX);
+            *counts.written.entry(number).or_default() += 1;
+        }
         counts.lines += 1;
     }
+    note(counts, output.stdout == expected, || {
+        format!("replay printed {} bytes of {}, or other ones", output.stdout.len(), expected.len())
+    });
     Ok(())
+}
+
+fn shown(line: &[u8]) -> String {
+    String::from_utf8_lossy(line).into_owned()
+}
+
+/// Runs a program on some input: all that it wrote.
+fn run(program: &str, input: Vec<u8>) -> io::Result<Output> {
+    let piped = Stdio::piped;
+    let mut child = Command::new(program).stdin(piped()).stdout(piped()).stderr(piped()).spawn()?;
+    let mut pipe = child.stdin.take().ok_or(io::ErrorKind::BrokenPipe)?;
+    let writer = std::thread::spawn(move || pipe.write_all(&input));
+    let output = child.wait_with_output()?;
+    writer.join().map_err(|_| io::ErrorKind::Other)??;
+    Ok(output)
 }
 
 /// How often each number occurred, as `number: times`.

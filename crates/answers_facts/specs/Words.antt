@@ -1,55 +1,28 @@
--- Document 01: "anything else is refused with 15 BENCH": the number of a bench setting that is given by two texts. Assumes nothing.
-use mathlib.Core.Path.{_≡_, refl}
+-- Document 01: "anything else is refused with 15 BENCH": the number of a bench setting that is given by two texts.
+use mathlib.Core.Path.{_≡_}
 use mathlib.Core.Bool.{Bool, true, false}
 use mathlib.Core.List.{List}
-use mathlib.Core.Logic.{_⊎_, inl, inr}
+use mathlib.Core.Logic.{_⊎_}
 use Prim.Native.Nat.{ℕ}
-use native.Mathlib.Omega.{arith}
-use Rattle.buffer.specs.First.{pick}
 use Rattle.buffer.specs.Byte.{sameText}
 use Rattle.buffer.specs.Quoted.{bytes}
-use Rattle.buffer.proofs.Rules.{each}
 use Rattle.sources.specs.Source.{knownSources, sourceOf}
-use Rattle.sources.specs.declared.Source.{Source}
-use Rattle.sources.specs.declared.Source.the-variants.{Known, Unknown, Malformed}
-use Rattle.readings.specs.Bench.{benchOf, benchNumber}
+use Rattle.sources.specs.declared.Source.the-variants.{Known}
+use Rattle.readings.specs.Bench.{benchOf}
 use Rattle.readings.specs.declared.Benched.{Benched}
-use Rattle.readings.specs.declared.Benched.the-variants.{Accepted, Refused}
-use Rattle.bench_words.specs.Words.{sourceAt, wordedOf, wordedNumber}
+use Rattle.readings.specs.declared.Benched.the-variants.{Accepted}
 use Rattle.bench_words.specs.declared.Worded.{Worded}
-use Rattle.bench_words.specs.declared.Worded.the-variants.{Is, Isnt}
-use Rattle.answers_facts.specs.Rows.{Told}
+use Rattle.bench_words.specs.declared.Worded.the-variants.{Is}
 
 -- whether two texts are a setting that the bench takes
 abbrev pub isAccepted : Benched → Bool
 isAccepted (Accepted r) = true
-isAccepted Refused = false
+isAccepted Benched.Refused = false
 
 unfoldable pub isTaken : Worded → Bool
 isTaken (Is setting) = isAccepted (benchOf setting)
-isTaken Isnt = false
-
-by-bench : (b : Benched) (w : Worded) → wordedNumber w ≡ benchNumber b → isTaken w ≡ isAccepted b → Told wordedNumber isTaken 0 w (pick (isTaken w) 0 15)
-unfolding pick
-by-bench (Accepted r) w e f = rw f (record { number-is = e; exactly = f })
-by-bench Refused w e f = rw f (record { number-is = e; exactly = f })
-
--- 0 exactly if the bench takes the setting, and 15 otherwise
-pub worded-number : (w : Worded) → Told wordedNumber isTaken 0 w (pick (isTaken w) 0 15)
-unfolding isTaken pick
-worded-number (Is setting) = by-bench (benchOf setting) (Is setting) refl refl
-worded-number Isnt = record { number-is = refl; exactly = refl }
+isTaken Worded.Refused = false
 
 -- a source that is known to the bench
 abbrev pub IsSource : List ℕ → Type 0
 IsSource source = (sameText source (bytes "FS") ≡ true) ⊎ ((code : ℕ) × (sourceOf knownSources source ≡ Known code))
-
--- "The sources here are exactly `0 1 2 6 7 T2 T6`", and FS: any other is refused
-pub taken-source : (source value : List ℕ) → wordedNumber (wordedOf source value) ≡ 0 → IsSource source
-unfolding wordedOf sourceAt
-taken-source source value = each (λ (w : Worded). wordedNumber w ≡ 0 → IsSource source) (sameText source (bytes "FS")) _ _ (λ e _. inl e) (λ _. at-source (sourceOf knownSources source) refl)
-  where
-    at-source : (k : Source) → sourceOf knownSources source ≡ k → wordedNumber (sourceAt k value) ≡ 0 → IsSource source
-    at-source (Known code) e z = inr (code, e)
-    at-source Unknown e z = absurd (omega arith)
-    at-source Malformed e z = absurd (omega arith)

@@ -1,4 +1,4 @@
--- FS by its size in hundredths is FS by its value. Assumes nothing.
+-- FS by its size in hundredths is FS by its value.
 use mathlib.Core.Path.{_≡_, refl, sym}
 use mathlib.Core.Bool.{Bool, true, false, not}
 use mathlib.Core.List.{[], _∷_}
@@ -14,11 +14,11 @@ use Rattle.decimal.specs.declared.Number.{Number}
 use Rattle.readings.specs.declared.Bench.the-variants.{Status}
 use Rattle.bench_words.specs.Inner.{statusIn}
 use Rattle.bench_words.specs.declared.Worded.{Worded}
-use Rattle.bench_words.specs.declared.Worded.the-variants.{Is, Isnt}
+use Rattle.bench_words.specs.declared.Worded.the-variants.{Is, Refused}
 
 -- the rows of FS that are left once the value is not below zero; u is its size in 10^-14
 abbrev rowsOf : ℕ → Worded
-rowsOf u = first (not (eqb (u % 10 ^ 14) 0) ⇒ Isnt ∷ leb 256 (u / 10 ^ 14) ⇒ Isnt ∷ []) (Is (Status (u / 10 ^ 14)))
+rowsOf u = first (not (eqb (u % 10 ^ 14) 0) ⇒ Refused ∷ leb 256 (u / 10 ^ 14) ⇒ Refused ∷ []) (Is (Status (u / 10 ^ 14)))
 
 -- a whole number is a whole number of hundreds of hundredths
 hundreds : (u : ℕ) → u % 10 ^ 14 ≡ 0 → u / 10 ^ 12 % 100 ≡ 0
@@ -28,11 +28,11 @@ hundreds u e =
     rw w (mul-mod-left q 100)
 
 -- no whole number, or one that is too large
-isnt-rows : (u : ℕ) → (u % 10 ^ 14 ≡ 0 → 256 ≤ u / 10 ^ 14) → rowsOf u ≡ Isnt
+isnt-rows : (u : ℕ) → (u % 10 ^ 14 ≡ 0 → 256 ≤ u / 10 ^ 14) → rowsOf u ≡ Refused
 unfolding pick
 isnt-rows u f = go (eqb (u % 10 ^ 14) 0) refl
   where
-    go : (t : Bool) → eqb (u % 10 ^ 14) 0 ≡ t → rowsOf u ≡ Isnt
+    go : (t : Bool) → eqb (u % 10 ^ 14) 0 ≡ t → rowsOf u ≡ Refused
     go false e = rw e
     go true e = rw (e, le-leb 256 (u / 10 ^ 14) (f (eqb-true _ _ e)))
 

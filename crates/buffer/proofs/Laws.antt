@@ -1,17 +1,17 @@
--- Laws of stores in lent memory, of answers and of short texts. Assumes nothing.
+-- Laws of stores in lent memory, of answers and of short texts.
 use mathlib.Core.Path.{_≡_, refl, sym, ap, _∙_}
-use mathlib.Core.Bool.{Bool, true, false, cond, _&&_, and-false, and-eq-true-iff}
+use mathlib.Core.Bool.{Bool, true, false, cond, _&&_, and-false, and-eq-true-iff, true≢false}
 use mathlib.Core.List.{List, [], _∷_, _++_, append-nil}
 use Prim.Native.Nat.{ℕ, zero, suc, _+_, _-_, _*_, _^_, _<_, _≤_}
 use native.Mathlib.Nat.{add-zero, zero-add, add-suc, suc-add, pow-suc, pow-le-pow-right, sub-zero, zero-sub, suc-sub-suc}
 use native.Mathlib.Numerals.{add-one}
 use native.Mathlib.Omega.{arith}
 use borrow.Author.Tests.{le-leb, lt-leb, leb-true, eq-eqb, eqb-true}
-use lib.Dec.{eqb, leb}
+use lib.Dec.{eqb, leb, eqb·zero-suc}
 use lib.ListN.{length, getD, set, drop, take, length-take, length-drop, drop-of-length-le, length-append}
 use lib.Seq.{sets, sets-eq, drop-cons, take-at, take-all, set-out, take-nil, take-suc-set}
 use Rattle.buffer.specs.Answer.{Answer, silent, over, Stored, Sent}
-use Rattle.buffer.specs.Byte.{within, sameText, untilOf, numeralFrom}
+use Rattle.buffer.specs.Byte.{at, within, isDigit, leading, startsWith, sameText, untilOf, numeralFrom}
 use Rattle.buffer.specs.Text.{textOf, cut}
 use Rattle.buffer.specs.declared.Text.{Text}
 
@@ -128,6 +128,37 @@ same-equal (x ∷ s) (y ∷ t) e =
 pub same-step : (s t : List ℕ) (i : ℕ) → i < length s → i < length t → sameText (drop i s) (drop i t) ≡ (sameText (drop (i + 1) s) (drop (i + 1) t) && eqb (getD s i 0) (getD t i 0))
 unfolding sameText
 same-step s t i h k = rw (drop-step s i h, drop-step t i k)
+
+-- ---- bytes at the front, and past the end
+
+-- past the end every byte is 0
+pub at-past : (s : List ℕ) (i : ℕ) → length s ≤ i → 0 ≡ at s i
+at-past [] i h = refl
+at-past (x ∷ s) zero h = omega arith
+at-past (x ∷ s) (suc i) h = at-past s i (omega arith)
+
+pub leading-step : (s : List ℕ) (i : ℕ) → i < length s → leading (drop i s) ≡ cond (isDigit (getD s i 0)) (leading (drop (i + 1) s) + 1) 0
+unfolding leading
+leading-step s i h = ap leading (drop-step s i h)
+
+pub leading-end : (s : List ℕ) (i : ℕ) → length s ≤ i → leading (drop i s) ≡ 0
+unfolding leading
+leading-end s i h = ap leading (drop-of-length-le s h)
+
+pub leading-le : (s : List ℕ) → leading s ≤ length s
+unfolding leading
+leading-le [] = omega arith
+leading-le (x ∷ s) = go (isDigit x) (leading-le s)
+  where
+    go : (b : Bool) → leading s ≤ length s → cond b (leading s + 1) 0 ≤ suc (length s)
+    go true h = omega arith
+    go false h = omega arith
+
+-- a text that starts with some character is not empty
+pub starts-some : (b : ℕ) (s : List ℕ) → startsWith (suc b) s ≡ true → 1 ≤ length s
+unfolding startsWith
+starts-some b [] h = absurd (true≢false (sym h ∙ eqb·zero-suc b))
+starts-some b (x ∷ s) h = omega arith
 
 -- ---- what stands before a byte
 

@@ -1,5 +1,5 @@
 -- Sets of lemmas for `search`. `search rules` answers a return whose definition goes by the code's tests, in their order, with the definition
--- on the `unfolding` line; `search tests` does it where the definition goes by `cond`. Assumes nothing.
+-- on the `unfolding` line; `search tests` does it where the definition goes by `cond`.
 use mathlib.Core.Path.{_≡_, refl, sym, ap, _∙_}
 use mathlib.Core.Bool.{Bool, true, false, not}
 use Prim.Native.Nat.{ℕ}

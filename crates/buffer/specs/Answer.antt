@@ -1,4 +1,4 @@
--- An answer, and what lent memory holds after it. Assumes nothing.
+-- An answer, and what lent memory holds after it.
 use mathlib.Core.Path.{_≡_}
 use mathlib.Core.List.{List, [], _++_}
 use Prim.Native.Nat.{ℕ}

@@ -1,4 +1,4 @@
--- The first that applies, in this order: a list of tests, each with what it gives, and what is given where none applies. Assumes nothing.
+-- The first that applies, in this order: a list of tests, each with what it gives, and what is given where none applies.
 use mathlib.Core.Bool.{Bool, true, false}
 use mathlib.Core.List.{List, [], _∷_}
 

@@ -1,4 +1,4 @@
--- Quoted texts as lists of character codes. Assumes nothing.
+-- Quoted texts as lists of character codes.
 use Prim.Native.Nat.{ℕ}
 use Prim.Native.Char.{code}
 use Prim.Native.String.{String, [], _∷_}

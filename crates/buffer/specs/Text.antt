@@ -1,4 +1,4 @@
--- Short texts by value. Assumes nothing.
+-- Short texts by value.
 use mathlib.Core.List.{List}
 use Prim.Native.Nat.{ℕ}
 use lib.ListN.{take}

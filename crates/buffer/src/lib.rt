@@ -4,7 +4,7 @@ ghost use mathlib.Core.List.{[], _∷_, _++_};
 ghost use lib.ListN.{length, take, drop};
 ghost use Prim.Native.Nat.{_<_, _-_};
 ghost use Rattle.buffer.specs.Answer.{Stored};
-ghost use Rattle.buffer.specs.Byte.{within, every, sameText, untilOf, numeral};
+ghost use Rattle.buffer.specs.Byte.{at, within, every, leading, startsWith, sameText, untilOf, numeral, wordOf};
 ghost use Rattle.buffer.specs.Text.{textOf, cut};
 
 // An answer's number, and the length of its reply.
@@ -182,6 +182,47 @@ pub fn is_same(s: &[u8], t: &[u8]) -> bool
         i += 1;
     }
     true
+}
+
+// The byte at place i, and 0 past the end.
+pub fn byte_at(s: &[u8], i: usize) -> u8
+    ensures { λ r. ⌜ r ≡ at (now (s .entry)) i ⌝ }
+{
+    if s.len() <= i {
+        return 0;
+    }
+    s[i]
+}
+
+// The number of four bytes, the high byte first.
+pub fn word(a: u8, b: u8, c: u8, d: u8) -> u32
+    ensures { λ r. ⌜ r ≡ wordOf a b c d ⌝ }
+{
+    (a as u32) * 16777216 + (b as u32) * 65536 + (c as u32) * 256 + (d as u32)
+}
+
+// How many digits stand at the front of s.
+pub fn count_digits(s: &[u8]) -> usize
+    ensures { λ r. ⌜ r ≡ leading (now (s .entry)) ⌝ }
+{
+    let mut i: usize = 0;
+    while i < s.len() {
+        if !is_within(s[i], 48, 57) {
+            return i;
+        }
+        i += 1;
+    }
+    i
+}
+
+// Whether s starts with the character b.
+pub fn starts_with(s: &[u8], b: u8) -> bool
+    ensures { λ r. ⌜ r ≡ startsWith b (now (s .entry)) ⌝ }
+{
+    if s.len() == 0 {
+        return 0 == b;
+    }
+    s[0] == b
 }
 
 // How many bytes stand before the first b, or the end.

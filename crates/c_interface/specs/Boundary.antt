@@ -1,4 +1,4 @@
--- What the C boundary promises of a play; what it promises of requests stands in `rewriter`. Assumes nothing.
+-- What the C boundary promises of a play; what it promises of requests stands in `rewriter`.
 use mathlib.Core.List.{List}
 use Prim.Native.Nat.{ℕ}
 use Rattle.player.specs.Played.{Ran}

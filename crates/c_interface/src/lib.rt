@@ -3,7 +3,7 @@ ghost use mathlib.Core.Path.{_≡_};
 ghost use Rattle.opg_crc.specs.Crc.{crcOf};
 ghost use lib.ListN.{length};
 ghost use Rattle.buffer.specs.Answer.{Sent};
-ghost use Rattle.opg_requests.specs.Asked.{askedOf};
+ghost use Rattle.opg_request_reader.specs.Asked.{askedOf};
 ghost use Rattle.rewriter.specs.Again.{opgAgain, Rewritten};
 ghost use Rattle.c_interface.specs.Boundary.{RanTo};
 

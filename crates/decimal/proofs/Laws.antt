@@ -1,35 +1,14 @@
--- Laws of the digits at the front of a text, and of the numbers that digits spell. Assumes nothing.
-use mathlib.Core.Path.{_≡_, refl, sym, ap, _∙_}
-use mathlib.Core.Bool.{Bool, true, false, cond, true≢false}
+-- Laws of the numbers that digits at the front of a text spell.
+use mathlib.Core.Path.{_≡_, refl, ap, _∙_}
+use mathlib.Core.Bool.{Bool, true, false, cond}
 use mathlib.Core.List.{List, [], _∷_}
 use Prim.Native.Nat.{ℕ, zero, suc, _+_, _-_, _*_, _^_, _<_, _≤_}
 use native.Mathlib.Nat.{pow-suc, mul-le-mul-right, mul-assoc, mul-comm}
 use native.Mathlib.Omega.{arith}
-use lib.Dec.{eqb·zero-suc}
-use lib.ListN.{length, getD, take, drop, length-take, drop-of-length-le}
+use lib.ListN.{take, length-take}
 use lib.Seq.{take-all}
-use Rattle.buffer.specs.Byte.{isDigit, numeralFrom, numeral}
-use Rattle.buffer.proofs.Laws.{drop-step, within-true}
-use Rattle.decimal.specs.Form.{leading, startsWith}
-
--- ---- the digits at the front
-
-pub leading-step : (s : List ℕ) (i : ℕ) → i < length s → leading (drop i s) ≡ cond (isDigit (getD s i 0)) (leading (drop (i + 1) s) + 1) 0
-unfolding leading
-leading-step s i h = ap leading (drop-step s i h)
-
-pub leading-end : (s : List ℕ) (i : ℕ) → length s ≤ i → leading (drop i s) ≡ 0
-unfolding leading
-leading-end s i h = ap leading (drop-of-length-le s h)
-
-pub leading-le : (s : List ℕ) → leading s ≤ length s
-unfolding leading
-leading-le [] = omega arith
-leading-le (x ∷ s) = go (isDigit x) (leading-le s)
-  where
-    go : (b : Bool) → leading s ≤ length s → cond b (leading s + 1) 0 ≤ suc (length s)
-    go true h = omega arith
-    go false h = omega arith
+use Rattle.buffer.specs.Byte.{isDigit, leading, numeralFrom, numeral}
+use Rattle.buffer.proofs.Laws.{within-true}
 
 -- a digit stands for 0 to 9
 pub digit-low : (x : ℕ) → isDigit x ≡ true → x - 48 < 10
@@ -61,9 +40,3 @@ six s n h = take-all 6 (take n s) (simp length-take (omega arith))
 
 pub numeral-low : (s : List ℕ) (n : ℕ) → n ≤ leading s → n ≤ 6 → numeral (take 6 (take n s)) < 10 ^ n
 numeral-low s n h k = rw (six s n k) (omega (arith, numeral-front s 0 n h))
-
--- a text that starts with some character is not empty
-pub starts-some : (b : ℕ) (s : List ℕ) → startsWith (suc b) s ≡ true → 1 ≤ length s
-unfolding startsWith
-starts-some b [] h = absurd (true≢false (sym h ∙ eqb·zero-suc b))
-starts-some b (x ∷ s) h = omega arith

@@ -1,4 +1,4 @@
--- Laws of powers of ten, sizes and comparison. Assumes nothing.
+-- Laws of powers of ten, sizes and comparison.
 use mathlib.Core.Path.{_≡_, refl, sym, ap, _∙_}
 use mathlib.Core.Bool.{Bool, true, false, not}
 use mathlib.Core.Logic.{inl, inr}

@@ -1,4 +1,4 @@
--- Exact decimal values and the canonical number of each. Assumes nothing.
+-- Exact decimal values and the canonical number of each.
 use mathlib.Core.Bool.{Bool, true, false, not}
 use mathlib.Core.List.{[], _∷_}
 use Prim.Native.Nat.{ℕ, zero, suc, _+_, _-_, _*_, _/_, _%_, _^_}

@@ -1,13 +1,13 @@
 -- Document 01, "Decimal numbers": the form, read from the front; each definition is given what is left of the text. It goes by the reader's
 -- steps. What to believe is the grammar, `decimal_facts/specs/Grammar`: its texts are exactly those that are read here, each with its value
--- (`decimal_facts/specs/Accepts: complete, sound, syntax-exactly`). Assumes nothing.
-use mathlib.Core.Bool.{Bool, true, false, cond, not, _||_}
+-- (`decimal_facts/specs/Theorems: Complete, Sound, SyntaxExactly`).
+use mathlib.Core.Bool.{Bool, true, false, not, _||_}
 use mathlib.Core.List.{List, [], _∷_}
 use Prim.Native.Nat.{ℕ, _+_, _*_, _^_}
 use lib.Dec.{ltb, leb, eqb}
 use lib.ListN.{length, take, drop}
 use Rattle.buffer.specs.First.{_⇒_, first}
-use Rattle.buffer.specs.Byte.{at, isDigit, numeral}
+use Rattle.buffer.specs.Byte.{leading, startsWith, numeral}
 use Rattle.decimal.specs.Exact.{normalOf}
 use Rattle.decimal.specs.declared.Exact.{Exact}
 use Rattle.decimal.specs.declared.Scan.{Scan}
@@ -18,15 +18,6 @@ use Rattle.decimal.specs.declared.Parsed.the-variants.{Value, Syntax, Ra
 -- the exact value of a whole number
 abbrev pub whole : Bool → ℕ → Exact
 whole negative n = record { negative = negative; digits = n; up = 0; down = 0 }
-
--- how many digits stand at the front
-unfoldable pub leading : List ℕ → ℕ
-leading [] = 0
-leading (x ∷ s) = cond (isDigit x) (leading s + 1) 0
-
--- whether the text starts with the character b (no text has the character 0)
-unfoldable pub startsWith : ℕ → List ℕ → Bool
-startsWith b s = eqb (at s 0) b
 
 -- "one or two digits", and no more. `below` says that a `-` stood before them
 unfoldable pub powerOf : List ℕ → Exact → Bool → Scan
@@ -80,9 +71,9 @@ unfoldable pub scanOf : List ℕ → Scan
 scanOf s = first (startsWith 45 s ⇒ unsignedOf (drop 1 s) true ∷ []) (unsignedOf s false)
 
 -- what a reader answers: the canonical number of the exact value, SYNTAX where the text is not of the form, else RANGE
-unfoldable pub answerOf : Scan → Parsed
-answerOf NoForm = Syntax
-answerOf (Of x) = normalOf x
+unfoldable pub parsedOf : Scan → Parsed
+parsedOf NoForm = Syntax
+parsedOf (Of x) = normalOf x
 
 -- document 01's number for each answer: 0 where it is a number
 abbrev pub parsedNumber : Parsed → ℕ
@@ -91,4 +82,4 @@ parsedNumber Syntax = 10
 parsedNumber Range = 11
 
 unfoldable pub numberOf : List ℕ → Parsed
-numberOf s = answerOf (scanOf s)
+numberOf s = parsedOf (scanOf s)

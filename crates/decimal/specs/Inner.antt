@@ -1,4 +1,4 @@
--- What inner functions promise; no public contract cites this file. Assumes nothing.
+-- What inner functions promise; no public contract cites this file.
 use mathlib.Core.Path.{_≡_}
 use mathlib.Core.Logic.{_⊎_}
 use Prim.Native.Nat.{ℕ, _*_, _^_, _≤_}

@@ -1,4 +1,4 @@
--- Numbers by value. Assumes nothing.
+-- Numbers by value.
 use mathlib.Core.Bool.{Bool, cond, not}
 use mathlib.Core.List.{[], _∷_}
 use Prim.Native.Nat.{ℕ, _+_, _/_, _%_, _^_}

@@ -4,9 +4,9 @@ ghost use mathlib.Core.Bool.{_||_};
 ghost use Prim.Native.Nat.{_+_, _*_, _^_, _≤_, _<_};
 ghost use lib.ListN.{take};
 ghost use lib.Dec.{ltb};
-ghost use Rattle.buffer.specs.Byte.{numeral};
+ghost use Rattle.buffer.specs.Byte.{leading, startsWith, numeral};
 ghost use Rattle.decimal.specs.Exact.{units, sizeOf, normalOf};
-ghost use Rattle.decimal.specs.Form.{whole, leading, startsWith, powerOf, exponentOf, fractionOf, unsignedOf, scanOf, numberOf};
+ghost use Rattle.decimal.specs.Form.{whole, powerOf, exponentOf, fractionOf, unsignedOf, scanOf, numberOf};
 ghost use Rattle.decimal.specs.Number.{belowOf, countedOf, hundredthsOf};
 ghost use Rattle.decimal.specs.Inner.{Scaled};
 
@@ -128,30 +128,6 @@ pub fn normal(x: Exact) -> Parsed
 
 // ---- the reader
 
-// How many digits stand at the front of s.
-pub fn count_digits(s: &[u8]) -> usize
-    ensures { λ r. ⌜ r ≡ leading (now (s .entry)) ⌝ }
-{
-    let mut i: usize = 0;
-    while i < s.len() {
-        if !buffer::is_within(s[i], 48, 57) {
-            return i;
-        }
-        i += 1;
-    }
-    i
-}
-
-// Whether s starts with the character b.
-pub fn starts_with(s: &[u8], b: u8) -> bool
-    ensures { λ r. ⌜ r ≡ startsWith b (now (s .entry)) ⌝ }
-{
-    if s.len() == 0 {
-        return 0 == b;
-    }
-    s[0] == b
-}
-
 // The number that the first n characters spell, which are digits.
 fn spelled(s: &[u8], n: usize) -> u32
     requires { ⌜ (n ≤ 6) × (n ≤ leading (now s)) ⌝ }
@@ -166,7 +142,7 @@ fn power(s: &[u8], x: Exact, below: bool) -> Scan
     requires { ⌜ x .down ≤ 6 ⌝ }
     ensures { λ r. ⌜ r ≡ powerOf (now (s .entry)) x below ⌝ }
 {
-    let n = count_digits(s);
+    let n = buffer::count_digits(s);
     if n < 1 {
         return Scan::NoForm;
     }
@@ -197,10 +173,10 @@ fn power(s: &[u8], x: Exact, below: bool) -> Scan
 fn is_marked(s: &[u8]) -> bool
     ensures { λ r. ⌜ r ≡ (startsWith 101 (now (s .entry)) || startsWith 69 (now (s .entry))) ⌝ }
 {
-    if starts_with(s, b'e') {
+    if buffer::starts_with(s, b'e') {
         return true;
     }
-    starts_with(s, b'E')
+    buffer::starts_with(s, b'E')
 }
 
 // What follows the digits: nothing, or an exponent.
@@ -215,7 +191,7 @@ fn exponent(s: &[u8], x: Exact) -> Scan
         return Scan::NoForm;
     }
     let t = buffer::rest(s, 1);
-    if starts_with(t, b'-') {
+    if buffer::starts_with(t, b'-') {
         return power(buffer::rest(t, 1), x, true);
     }
     power(t, x, false)
@@ -241,7 +217,7 @@ fn fraction(s: &[u8], x: Exact, n: usize) -> Scan
     requires { ⌜ (n ≤ 6) × (x .digits < 10 ^ n) ⌝ }
     ensures { λ r. ⌜ r ≡ fractionOf (now (s .entry)) x n ⌝ }
 {
-    let k = count_digits(s);
+    let k = buffer::count_digits(s);
     if k < 1 {
         return Scan::NoForm;
     }
@@ -262,7 +238,7 @@ fn fraction(s: &[u8], x: Exact, n: usize) -> Scan
 fn unsigned(s: &[u8], negative: bool) -> Scan
     ensures { λ r. ⌜ r ≡ unsignedOf (now (s .entry)) negative ⌝ }
 {
-    let n = count_digits(s);
+    let n = buffer::count_digits(s);
     if n < 1 {
         return Scan::NoForm;
     }
@@ -276,7 +252,7 @@ fn unsigned(s: &[u8], negative: bool) -> Scan
         down: 0,
     };
     let t = buffer::rest(s, n);
-    if starts_with(t, b'.') {
+    if buffer::starts_with(t, b'.') {
         return fraction(buffer::rest(t, 1), x, n);
     }
     exponent(t, x)
@@ -286,7 +262,7 @@ fn unsigned(s: &[u8], negative: bool) -> Scan
 pub fn read_exact(s: &[u8]) -> Scan
     ensures { λ r. ⌜ r ≡ scanOf (now (s .entry)) ⌝ }
 {
-    if starts_with(s, b'-') {
+    if buffer::starts_with(s, b'-') {
         return unsigned(buffer::rest(s, 1), true);
     }
     unsigned(s, false)

@@ -3,9 +3,9 @@ use mathlib.Core.Path.{refl}
 use mathlib.Core.Logic.{inl, inr}
 use native.Mathlib.Omega.{arith}
 use Rattle.buffer.specs.First.{pick}
-use Rattle.buffer.specs.Byte.{within, numeralFrom}
+use Rattle.buffer.specs.Byte.{within, numeralFrom, leading, startsWith}
 use Rattle.decimal.specs.Exact.{sizeOf, normalOf}
-use Rattle.decimal.specs.Form.{leading, startsWith, exponentOf, fractionOf, unsignedOf, scanOf, answerOf, numberOf}
+use Rattle.decimal.specs.Form.{exponentOf, fractionOf, unsignedOf, scanOf, parsedOf, numberOf}
 use Rattle.decimal_text.specs.Written.{signText, trimmed, pointed, exponentText, writtenOf}
 use Rattle.decimal_text.proofs.Laws.{written-le}
 use Rattle.decimal_facts.proofs.Accepts.{form-reads, value-exactly}
@@ -31,5 +31,5 @@ hundredths-read negative h k =
 
 -- "973.4 is `9.734e2`, 1 is `1e0`"
 pub examples : Examples
-unfolding bytes numberOf answerOf scanOf unsignedOf fractionOf exponentOf leading startsWith normalOf sizeOf pick within numeralFrom writtenOf signText pointed trimmed exponentText
+unfolding bytes numberOf parsedOf scanOf unsignedOf fractionOf exponentOf leading startsWith normalOf sizeOf pick within numeralFrom writtenOf signText pointed trimmed exponentText
 examples = (refl, refl)

@@ -8,12 +8,12 @@ use Rattle.decimal.specs.Exact.{units, zeroNumber, normalOf}
 use Rattle.decimal.specs.Number.{plus, minus, sameValue}
 use Rattle.decimal.specs.declared.Exact.{Exact}
 use Rattle.decimal.specs.declared.Parsed.the-variants.{Syntax}
-use Rattle.decimal_facts.specs.Canonical.{SixDigits, Answers}
+use Rattle.decimal_facts.specs.Canonical.{SixDigits, ParsesAs}
 use Rattle.decimal_facts.proofs.Lemmas.Rows.{rows, signs, canonical-same, answered-exactly, exactly-answered, range-outside, outside-range, syntax-six, six-syntax, zero-exactly, exactly-none, hundredths-of, counted}
 use Rattle.decimal_facts.specs.Theorems.{ExactValue, OutsideRange, IsZero, Same, HundredthsExactly}
 
 -- the whole of `normalOf`: zero; or the canonical number of the value; or RANGE; or, where the value needs over six digits, SYNTAX
-pub answers : (x : Exact) → Answers x (normalOf x)
+pub answers : (x : Exact) → ParsesAs x (normalOf x)
 answers x = rows x
 
 -- "The value is exact.": a number is answered exactly where it is the canonical number of the value

@@ -43,11 +43,11 @@ abbrev pub SixDigits : ℕ → Type 0
 SixDigits d = (m : ℕ) × (k : ℕ) × (m < 10 ^ 6) × (d ≡ m * 10 ^ k)
 
 -- what is answered for x, and what is then known of x
-pub data Answers (x : Exact) : Parsed → Type 0 where
-  nothing : x .digits ≡ 0 → Answers x (Value zeroNumber)
-  number : (n : Number) → 0 < x .digits → Exactly x n → Answers x (Value n)
-  outside : 0 < x .digits → SixDigits (x .digits) → TooSmall x ⊎ TooLarge x → Answers x Range
-  uneven : 0 < x .digits → (SixDigits (x .digits) → ⊥) → Answers x Syntax
+pub data ParsesAs (x : Exact) : Parsed → Type 0 where
+  nothing : x .digits ≡ 0 → ParsesAs x (Value zeroNumber)
+  number : (n : Number) → 0 < x .digits → Exactly x n → ParsesAs x (Value n)
+  outside : 0 < x .digits → SixDigits (x .digits) → TooSmall x ⊎ TooLarge x → ParsesAs x Range
+  uneven : 0 < x .digits → (SixDigits (x .digits) → ⊥) → ParsesAs x Syntax
 
 -- what a text is sent as, once read
 abbrev pub sentOf : Parsed → List ℕ

@@ -33,8 +33,8 @@ exponent mark below [] = []
 exponent mark below (x ∷ s) = mark ∷ dash below ++ x ∷ s
 
 -- "an optional `-`, digits, optionally `.` and digits, optionally `e` or `E`, an optional `-` and one or two digits"
-unfoldable pub textOf : Parts → List ℕ
-textOf p = dash (p .negative) ++ p .whole ++ point (p .fraction) ++ exponent (p .mark) (p .below) (p .power)
+unfoldable pub spelledOf : Parts → List ℕ
+spelledOf p = dash (p .negative) ++ p .whole ++ point (p .fraction) ++ exponent (p .mark) (p .below) (p .power)
 
 -- "Each digit group has at least one; at most six digits stand before the exponent, leading zeros included." The mark is `e` or `E`
 pub record Good (p : Parts) : Type 0 where

@@ -2,7 +2,7 @@
 use mathlib.Core.Path.{_≡_}
 use Rattle.decimal.specs.Form.{scanOf, numberOf}
 use Rattle.decimal.specs.declared.Scan.the-variants.{Of}
-use Rattle.decimal_facts.specs.Grammar.{Parts, Good, textOf, meaning}
+use Rattle.decimal_facts.specs.Grammar.{Parts, Good, spelledOf, meaning}
 use mathlib.Core.List.{List}
 use Prim.Native.Nat.{ℕ, _<_, _*_, _^_, _+_, _≤_}
 use Rattle.decimal.specs.declared.Exact.{Exact}
@@ -20,27 +20,27 @@ use Rattle.buffer.specs.Quoted.{bytes}
 
 -- Each text of the form is read, as its value.
 abbrev pub Complete : Type 0
-Complete = (p : Parts) → Good p → scanOf (textOf p) ≡ Of (meaning p)
+Complete = (p : Parts) → Good p → scanOf (spelledOf p) ≡ Of (meaning p)
 
 -- And what is read is a text of the form, with that value.
 abbrev pub Sound : Type 0
-Sound = (s : List ℕ) (x : Exact) → scanOf s ≡ Of x → (p : Parts) × Good p × (textOf p ≡ s) × (meaning p ≡ x)
+Sound = (s : List ℕ) (x : Exact) → scanOf s ≡ Of x → (p : Parts) × Good p × (spelledOf p ≡ s) × (meaning p ≡ x)
 
 -- SYNTAX is answered exactly where the text is not of the form
 abbrev pub SyntaxExactly : Type 0
-SyntaxExactly = (s : List ℕ) → (numberOf s ≡ Syntax) ↔ ((p : Parts) → Good p → textOf p ≡ s → ⊥)
+SyntaxExactly = (s : List ℕ) → (numberOf s ≡ Syntax) ↔ ((p : Parts) → Good p → spelledOf p ≡ s → ⊥)
 
 -- a number is answered exactly where it is the canonical number of the text's value
 abbrev pub ValueExactly : Type 0
-ValueExactly = (p : Parts) (n : Number) → Good p → (numberOf (textOf p) ≡ Value n) ↔ Exactly (meaning p) n
+ValueExactly = (p : Parts) (n : Number) → Good p → (numberOf (spelledOf p) ≡ Value n) ↔ Exactly (meaning p) n
 
 -- "`-0` is zero.": zero is answered exactly where the digits before the exponent spell 0, whatever sign, point and exponent
 abbrev pub ZeroExactly : Type 0
-ZeroExactly = (p : Parts) → Good p → (numberOf (textOf p) ≡ Value zeroNumber) ↔ (meaning p .digits ≡ 0)
+ZeroExactly = (p : Parts) → Good p → (numberOf (spelledOf p) ≡ Value zeroNumber) ↔ (meaning p .digits ≡ 0)
 
 -- and of no other text
 abbrev pub RangeExactly : Type 0
-RangeExactly = (s : List ℕ) → (numberOf s ≡ Range) ↔ ((p : Parts) × Good p × (textOf p ≡ s) × OutOfRange (meaning p))
+RangeExactly = (s : List ℕ) → (numberOf s ≡ Range) ↔ ((p : Parts) × Good p × (spelledOf p ≡ s) × OutOfRange (meaning p))
 
 -- "The value is exact.": a number is answered exactly where it is the canonical number of the value
 abbrev pub ExactValue : Type 0

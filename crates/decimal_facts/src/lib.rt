@@ -1,1 +1,1 @@
-// Document 01, "Decimal numbers": theorems only, in specs/.
+// Document 01, "Decimal numbers": theorems only; specs/ has the statements, proofs/ the proofs.

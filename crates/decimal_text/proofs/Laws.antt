@@ -1,4 +1,4 @@
--- Laws of trailing zeros, and of texts that grow. Assumes nothing.
+-- Laws of trailing zeros, and of texts that grow.
 use mathlib.Core.Path.{_≡_, refl, ap, _∙_}
 use mathlib.Core.Bool.{Bool, true, false, cond, _&&_}
 use mathlib.Core.List.{List, [], _∷_, _++_}

@@ -1,4 +1,4 @@
--- Document 01, "Decimal numbers": the texts that are sent. Assumes nothing.
+-- Document 01, "Decimal numbers": the texts that are sent.
 use mathlib.Core.Bool.{Bool, cond, _&&_}
 use mathlib.Core.List.{List, [], _∷_, _++_}
 use Prim.Native.Nat.{ℕ, _-_, _/_}

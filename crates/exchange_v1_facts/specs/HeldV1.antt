@@ -1,17 +1,17 @@
--- Document 01, "V1 on the same settings": what the gauge holds for a V1 request, and what the master is to read of its answer. Assumes nothing.
+-- Document 01, "V1 on the same settings": what the gauge holds for a V1 request, and what the master is to read of its answer.
 use mathlib.Core.List.{[], _∷_}
 use Prim.Native.Nat.{ℕ, _+_, _/_}
 use lib.Dec.{eqb}
 use Rattle.buffer.specs.First.{_⇒_, first, pick}
-use Rattle.frame_writer.specs.declared.ErrorText.{ErrorText}
-use Rattle.frame_writer.specs.declared.ErrorText.the-variants.{Logic, NoDef, Range, Error1}
+use Rattle.error_texts.specs.declared.ErrorText.{ErrorText}
+use Rattle.error_texts.specs.declared.ErrorText.the-variants.{Logic, NoDef, Range, Error1}
 use Rattle.decimal.specs.declared.Number.{Number}
 use Rattle.readings.specs.declared.Pressure.{Pressure}
-use Rattle.readings.specs.declared.Pressure.the-variants.{Measured, Under, Over, Faulty}
+use Rattle.readings.specs.declared.Pressure.the-variants.{Measured, Faulty}
 use Rattle.requests.specs.declared.RequestV1.{RequestV1}
 use Rattle.requests.specs.declared.RequestV1.the-variants.{Measure, ReadFactor, Unlock, SetFactor, ReadUnit, SetUnit}
 use Rattle.replies_v1.specs.declared.ReplyV1.{ReplyV1}
-use Rattle.replies_v1.specs.declared.ReplyV1.the-variants.{Reads, BelowRange, AboveRange, Factor, Unit, Done, Error}
+use Rattle.replies_v1.specs.declared.ReplyV1.the-variants.{Reads, Factor, Unit, Done, Error}
 use Rattle.replies_v1.specs.declared.ReadV1.{ReadV1}
 use Rattle.replies_v1.specs.declared.ReadV1.the-variants.{Read}
 use Rattle.gauge_rules.specs.State.{State}
@@ -27,8 +27,8 @@ roundedV1 n =
 -- a faulty sensor has no value: "`M` with the data `1`", which the master reads as the error
 unfoldable pub pressureHeld : Pressure → ReplyV1
 pressureHeld (Measured n) = roundedV1 n
-pressureHeld Under = BelowRange
-pressureHeld Over = AboveRange
+pressureHeld Pressure.UnderRange = ReplyV1.UnderRange
+pressureHeld Pressure.OverRange = ReplyV1.OverRange
 pressureHeld Faulty = Error Error1
 
 -- what the gauge holds for a request

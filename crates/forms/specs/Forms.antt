@@ -1,40 +1,40 @@
--- The data of each setting: its form, else 10 SYNTAX; its numbers, else 11 RANGE; and F below T, else 12 LOGIC. Assumes nothing.
+-- The data of each setting: its form, else 10 SYNTAX; its numbers, else 11 RANGE; and F below T, else 12 LOGIC.
 use mathlib.Core.Bool.{Bool, not, _&&_, _||_}
 use mathlib.Core.List.{List, [], _∷_}
 use Prim.Native.Nat.{ℕ, _+_, _-_, min}
 use lib.Dec.{ltb, leb, eqb}
 use lib.ListN.{length, take, drop}
 use Rattle.buffer.specs.First.{_⇒_, first}
-use Rattle.buffer.specs.Byte.{at, within, isDigit, every, sameText, untilOf, numeral}
-use Rattle.decimal.specs.Form.{leading, startsWith, numberOf, parsedNumber}
+use Rattle.buffer.specs.Byte.{at, within, isDigit, every, sameText, untilOf, numeral, leading, startsWith}
+use Rattle.decimal.specs.Form.{numberOf, parsedNumber}
 use Rattle.decimal.specs.Number.{belowOf, hundredthsOf}
 use Rattle.decimal.specs.declared.Parsed.{Parsed}
 use Rattle.decimal.specs.declared.Parsed.the-variants.{Value, Syntax, Range}
 use Rattle.decimal.specs.declared.Hundredths.{Hundredths}
 use Rattle.decimal.specs.declared.Hundredths.the-variants.{Whole, Other}
 use Rattle.sources.specs.Entries.{entriesNumber}
-use Rattle.settings.specs.Limits.{standard}
+use Rattle.settings.specs.Limits.{standard, isFactor}
 use Rattle.settings.specs.Sent.{unitText}
 use Rattle.settings.specs.declared.PressureUnit.the-variants.{Mbar, Torr, HPa}
 use Rattle.settings.specs.declared.Transition.the-variants.{Direct, Between}
 use Rattle.settings.specs.declared.Setting.{Setting}
 use Rattle.settings.specs.declared.Setting.the-variants.{Address, PressureIn, Factor, Switch, Stream}
 use Rattle.forms.specs.declared.Digit.{Digit}
-use Rattle.forms.specs.declared.Digit.the-variants.{Is, Isnt}
+use Rattle.forms.specs.declared.Digit.the-variants.{Is}
 use Rattle.forms.specs.declared.Limited.{Limited}
-use Rattle.forms.specs.declared.Limited.the-variants.{Fine, Bad}
+use Rattle.forms.specs.declared.Limited.the-variants.{Fine}
 use Rattle.forms.specs.declared.Ends.{Ends}
 use Rattle.forms.specs.declared.Ends.the-variants.{None, One, Two}
 use Rattle.forms.specs.declared.Verdict.{Verdict}
-use Rattle.forms.specs.declared.Verdict.the-variants.{Set, Refused}
+use Rattle.forms.specs.declared.Verdict.the-variants.{Set}
 
 -- DA: "`001` to `016`"; "DA without three digits" is SYNTAX
 unfoldable pub addressData : List ℕ → Verdict
 addressData s =
     first
-    (not (eqb (length s) 3) ⇒ Refused 10
-    ∷ not (every isDigit s) ⇒ Refused 10
-    ∷ not (within (standard .addressLow) (standard .addressHigh) (numeral s)) ⇒ Refused 11
+    (not (eqb (length s) 3) ⇒ Verdict.Refused 10
+    ∷ not (every isDigit s) ⇒ Verdict.Refused 10
+    ∷ not (within (standard .addressLow) (standard .addressHigh) (numeral s)) ⇒ Verdict.Refused 11
     ∷ [])
     (Set (Address (numeral s)))
 
@@ -46,54 +46,54 @@ unitData s =
     ∷ sameText s (unitText Torr) ⇒ Set (PressureIn Torr)
     ∷ sameText s (unitText HPa) ⇒ Set (PressureIn HPa)
     ∷ [])
-    (Refused 10)
+    (Verdict.Refused 10)
 
 -- C1: "a number, whole hundredths, 0.20 to 8.00, else RANGE"
 unfoldable pub factorIn : Hundredths → Verdict
-factorIn (Whole h) = first (not (within (standard .factorLow) (standard .factorHigh) h) ⇒ Refused 11 ∷ []) (Set (Factor h))
-factorIn Other = Refused 11
+factorIn (Whole h) = first (not (isFactor h) ⇒ Verdict.Refused 11 ∷ []) (Set (Factor h))
+factorIn Other = Verdict.Refused 11
 
 unfoldable pub factorOf : Parsed → Verdict
-factorOf Syntax = Refused (parsedNumber Syntax)
-factorOf Range = Refused (parsedNumber Range)
-factorOf (Value n) = first (n .negative ⇒ Refused 11 ∷ []) (factorIn (hundredthsOf n))
+factorOf Syntax = Verdict.Refused (parsedNumber Syntax)
+factorOf Range = Verdict.Refused (parsedNumber Range)
+factorOf (Value n) = first (n .negative ⇒ Verdict.Refused 11 ∷ []) (factorIn (hundredthsOf n))
 
 -- "One-digit settings: any other digit is RANGE, anything else SYNTAX": the largest digit is `most`
 unfoldable pub digitData : ℕ → List ℕ → Digit
 digitData most s =
     first
-    (not (eqb (length s) 1) ⇒ Isnt 10
-    ∷ not (isDigit (at s 0)) ⇒ Isnt 10
-    ∷ ltb most (at s 0 - 48) ⇒ Isnt 11
+    (not (eqb (length s) 1) ⇒ Digit.Refused 10
+    ∷ not (isDigit (at s 0)) ⇒ Digit.Refused 10
+    ∷ ltb most (at s 0 - 48) ⇒ Digit.Refused 11
     ∷ [])
     (Is (at s 0 - 48))
 
 -- CM, CC and FC
 unfoldable pub digitOf : (ℕ → Setting) → Digit → Verdict
 digitOf setting (Is d) = Set (setting d)
-digitOf setting (Isnt k) = Refused k
+digitOf setting (Digit.Refused k) = Verdict.Refused k
 
 -- a number of ST: "each 1 to 20"
 unfoldable pub limitedOf : Parsed → Limited
-limitedOf Syntax = Bad (parsedNumber Syntax)
-limitedOf Range = Bad (parsedNumber Range)
+limitedOf Syntax = Limited.Refused (parsedNumber Syntax)
+limitedOf Range = Limited.Refused (parsedNumber Range)
 limitedOf (Value n) =
     first
-    (belowOf n (standard .transitionLow) ⇒ Bad 11
-    ∷ belowOf (standard .transitionHigh) n ⇒ Bad 11
+    (belowOf n (standard .transitionLow) ⇒ Limited.Refused 11
+    ∷ belowOf (standard .transitionHigh) n ⇒ Limited.Refused 11
     ∷ [])
     (Fine n)
 
 unfoldable pub directOf : Limited → Verdict
 directOf (Fine n) = Set (Switch (Direct n))
-directOf (Bad k) = Refused k
+directOf (Limited.Refused k) = Verdict.Refused k
 
 -- SYNTAX of either number comes before RANGE of the other. "ST's F must lie strictly below T, else LOGIC."
 unfoldable pub betweenOf : Limited → Limited → Verdict
-betweenOf (Fine low) (Fine high) = first (not (belowOf low high) ⇒ Refused 12 ∷ []) (Set (Switch (Between low high)))
-betweenOf (Fine low) (Bad k) = Refused k
-betweenOf (Bad j) (Fine high) = Refused j
-betweenOf (Bad j) (Bad k) = Refused (min j k)
+betweenOf (Fine low) (Fine high) = first (not (belowOf low high) ⇒ Verdict.Refused 12 ∷ []) (Set (Switch (Between low high)))
+betweenOf (Fine low) (Limited.Refused k) = Verdict.Refused k
+betweenOf (Limited.Refused j) (Fine high) = Verdict.Refused j
+betweenOf (Limited.Refused j) (Limited.Refused k) = Verdict.Refused (min j k)
 
 -- ST: "`D` number, or `F` number `T` number", each judged by itself
 unfoldable pub endsOf : List ℕ → Ends
@@ -108,7 +108,7 @@ endsOf s =
     (Two (limitedOf (numberOf (take k t))) (limitedOf (numberOf (drop (k + 1) t))))
 
 unfoldable pub transitionOf : Ends → Verdict
-transitionOf None = Refused 10
+transitionOf None = Verdict.Refused 10
 transitionOf (One n) = directOf n
 transitionOf (Two low high) = betweenOf low high
 
@@ -127,11 +127,11 @@ knownMode s = startsWith 48 s || startsWith 52 s
 unfoldable pub streamOf : List ℕ → ℕ → Verdict
 streamOf s n =
     first
-    (eqb (leading s) 0 ⇒ Refused 10
-    ∷ eqb n 10 ⇒ Refused 10
-    ∷ idleList s ⇒ Refused 10
-    ∷ not (knownMode s) ⇒ Refused 11
-    ∷ eqb n 11 ⇒ Refused 11
+    (eqb (leading s) 0 ⇒ Verdict.Refused 10
+    ∷ eqb n 10 ⇒ Verdict.Refused 10
+    ∷ idleList s ⇒ Verdict.Refused 10
+    ∷ not (knownMode s) ⇒ Verdict.Refused 11
+    ∷ eqb n 11 ⇒ Verdict.Refused 11
     ∷ [])
     (Set (Stream (startsWith 52 s)))
 

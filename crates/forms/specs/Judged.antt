@@ -1,4 +1,4 @@
--- How the data of a write are judged. Assumes nothing.
+-- How the data of a write are judged.
 use mathlib.Core.Path.{_≡_}
 use mathlib.Core.List.{List, []}
 use Prim.Native.Nat.{ℕ}

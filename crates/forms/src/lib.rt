@@ -26,13 +26,13 @@ pub struct Judged {
 // One digit, or the refusal's number.
 pub enum Digit {
     Is(u8),
-    Isnt(u8),
+    Refused(u8),
 }
 
 // A number within the limits of ST, or the refusal's number.
 pub enum Limited {
     Fine(decimal::Number),
-    Bad(u8),
+    Refused(u8),
 }
 
 // The numbers of ST's data: neither form, one number, or two.
@@ -66,15 +66,15 @@ pub fn judge_address(s: &[u8]) -> Verdict
 pub fn judge_unit(s: &[u8]) -> Verdict
     ensures { λ r. ⌜ r ≡ unitData (now (s .entry)) ⌝ }
 {
-    let mbar = [b'm', b'b', b'a', b'r'];
+    let mbar = settings::PressureUnit::MBAR_TEXT;
     if buffer::is_same(s, &mbar) {
         return Verdict::Set(settings::Setting::PressureIn(settings::PressureUnit::Mbar));
     }
-    let torr = [b'T', b'o', b'r', b'r'];
+    let torr = settings::PressureUnit::TORR_TEXT;
     if buffer::is_same(s, &torr) {
         return Verdict::Set(settings::Setting::PressureIn(settings::PressureUnit::Torr));
     }
-    let hpa = [b'h', b'P', b'a'];
+    let hpa = settings::PressureUnit::HPA_TEXT;
     if buffer::is_same(s, &hpa) {
         return Verdict::Set(settings::Setting::PressureIn(settings::PressureUnit::HPa));
     }
@@ -88,10 +88,7 @@ pub fn factor_in(h: decimal::Hundredths) -> Verdict
     let decimal::Hundredths::Whole(n) = h else {
         return Verdict::Refused(11);
     };
-    if n < settings::Settings::FACTOR_MIN as u32 {
-        return Verdict::Refused(11);
-    }
-    if (settings::Settings::FACTOR_MAX as u32) < n {
+    if !settings::Settings::is_factor(n) {
         return Verdict::Refused(11);
     }
     Verdict::Set(settings::Setting::Factor(n as u16))
@@ -124,15 +121,15 @@ pub fn judge_digit(s: &[u8], most: u8) -> Digit
     ensures { λ r. ⌜ r ≡ digitData most (now (s .entry)) ⌝ }
 {
     if s.len() != 1 {
-        return Digit::Isnt(10);
+        return Digit::Refused(10);
     }
     let b = s[0];
     if !buffer::is_within(b, 48, 57) {
-        return Digit::Isnt(10);
+        return Digit::Refused(10);
     }
     let d = b - 48;
     if most < d {
-        return Digit::Isnt(11);
+        return Digit::Refused(11);
     }
     Digit::Is(d)
 }
@@ -143,7 +140,7 @@ pub fn judge_control(s: &[u8]) -> Verdict
 {
     match judge_digit(s, settings::Settings::CONTROL_MAX) {
         Digit::Is(d) => Verdict::Set(settings::Setting::Control(d)),
-        Digit::Isnt(k) => Verdict::Refused(k),
+        Digit::Refused(k) => Verdict::Refused(k),
     }
 }
 
@@ -153,7 +150,7 @@ pub fn judge_cathode(s: &[u8]) -> Verdict
 {
     match judge_digit(s, settings::Settings::CATHODE_MAX) {
         Digit::Is(d) => Verdict::Set(settings::Setting::Cathode(d)),
-        Digit::Isnt(k) => Verdict::Refused(k),
+        Digit::Refused(k) => Verdict::Refused(k),
     }
 }
 
@@ -163,7 +160,7 @@ pub fn judge_filament(s: &[u8]) -> Verdict
 {
     match judge_digit(s, settings::Settings::FILAMENT_MAX) {
         Digit::Is(d) => Verdict::Set(settings::Setting::Filament(d)),
-        Digit::Isnt(k) => Verdict::Refused(k),
+        Digit::Refused(k) => Verdict::Refused(k),
     }
 }
 
@@ -172,14 +169,14 @@ pub fn in_limits(p: decimal::Parsed) -> Limited
     ensures { λ r. ⌜ r ≡ limitedOf p ⌝ }
 {
     match p {
-        decimal::Parsed::Syntax => Limited::Bad(10),
-        decimal::Parsed::Range => Limited::Bad(11),
+        decimal::Parsed::Syntax => Limited::Refused(10),
+        decimal::Parsed::Range => Limited::Refused(11),
         decimal::Parsed::Value(n) => {
             if n.is_below(settings::Settings::TRANSITION_MIN) {
-                return Limited::Bad(11);
+                return Limited::Refused(11);
             }
             if settings::Settings::TRANSITION_MAX.is_below(n) {
-                return Limited::Bad(11);
+                return Limited::Refused(11);
             }
             Limited::Fine(n)
         }
@@ -193,7 +190,7 @@ fn direct(n: Limited) -> Verdict
         Limited::Fine(v) => Verdict::Set(settings::Setting::Switch(settings::Transition::Direct(
             v,
         ))),
-        Limited::Bad(k) => Verdict::Refused(k),
+        Limited::Refused(k) => Verdict::Refused(k),
     }
 }
 
@@ -208,12 +205,12 @@ fn between(low: Limited, high: Limited) -> Verdict
     ensures { λ r. ⌜ r ≡ betweenOf low high ⌝ }
 {
     match low {
-        Limited::Bad(j) => match high {
-            Limited::Bad(k) => Verdict::Refused(lesser(j, k)),
+        Limited::Refused(j) => match high {
+            Limited::Refused(k) => Verdict::Refused(lesser(j, k)),
             Limited::Fine(_) => Verdict::Refused(j),
         },
         Limited::Fine(a) => match high {
-            Limited::Bad(k) => Verdict::Refused(k),
+            Limited::Refused(k) => Verdict::Refused(k),
             Limited::Fine(b) => {
                 if !a.is_below(b) {
                     return Verdict::Refused(12);
@@ -229,10 +226,10 @@ pub fn read_ends(s: &[u8]) -> Ends
     ensures { λ r. ⌜ r ≡ endsOf (now (s .entry)) ⌝ }
 {
     let t = buffer::rest(s, 1);
-    if decimal::starts_with(s, b'D') {
+    if buffer::starts_with(s, b'D') {
         return Ends::One(in_limits(decimal::read_number(t)));
     }
-    if !decimal::starts_with(s, b'F') {
+    if !buffer::starts_with(s, b'F') {
         return Ends::None;
     }
     let k = buffer::until(t, b'T');
@@ -275,7 +272,7 @@ fn refused(number: u8) -> Judged
 fn has_idle_list(s: &[u8]) -> bool
     ensures { λ r. ⌜ r ≡ idleList (now (s .entry)) ⌝ }
 {
-    if decimal::starts_with(s, b'0') {
+    if buffer::starts_with(s, b'0') {
         return 2 <= s.len();
     }
     false
@@ -285,17 +282,17 @@ fn has_idle_list(s: &[u8]) -> bool
 fn has_mode(s: &[u8]) -> bool
     ensures { λ r. ⌜ r ≡ knownMode (now (s .entry)) ⌝ }
 {
-    if decimal::starts_with(s, b'0') {
+    if buffer::starts_with(s, b'0') {
         return true;
     }
-    decimal::starts_with(s, b'4')
+    buffer::starts_with(s, b'4')
 }
 
 // SM: number is how the entries after the mode are judged.
 fn stream_verdict(s: &[u8], number: u8) -> Verdict
     ensures { λ r. ⌜ r ≡ streamOf (now (s .entry)) number ⌝ }
 {
-    if decimal::count_digits(s) == 0 {
+    if buffer::count_digits(s) == 0 {
         return Verdict::Refused(10);
     }
     if number == 10 {
@@ -310,7 +307,7 @@ fn stream_verdict(s: &[u8], number: u8) -> Verdict
     if number == 11 {
         return Verdict::Refused(11);
     }
-    let on = decimal::starts_with(s, b'4');
+    let on = buffer::starts_with(s, b'4');
     Verdict::Set(settings::Setting::Stream(on))
 }
 

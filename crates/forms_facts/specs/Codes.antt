@@ -1,4 +1,4 @@
--- Sources by their codes. Assumes nothing.
+-- Sources by their codes.
 use mathlib.Core.Path.{_≡_}
 use mathlib.Core.Bool.{true}
 use mathlib.Core.List.{List}

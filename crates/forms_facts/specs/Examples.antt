@@ -1,24 +1,15 @@
--- Document 01, the column "Data": worked cases, their answers taken from the paper. Assumes nothing.
-use mathlib.Core.Path.{_≡_, refl}
-use mathlib.Core.Bool.{Bool, true}
+-- Document 01, the column "Data": worked cases, their answers taken from the paper.
+use mathlib.Core.Bool.{Bool}
 use mathlib.Core.List.{List, [], _∷_}
 use Prim.Native.Nat.{ℕ}
 use Prim.Native.String.{String}
 use lib.Dec.{eqb}
-use Rattle.buffer.specs.First.{pick}
-use Rattle.buffer.specs.Byte.{within, every, sameText, untilOf, numeralFrom}
-use Rattle.decimal.specs.Exact.{units, sizeOf, normalOf}
-use Rattle.decimal.specs.Form.{leading, startsWith, powerOf, exponentOf, fractionOf, unsignedOf, scanOf, answerOf, numberOf}
-use Rattle.decimal.specs.Number.{plus, minus, belowOf, countedOf, hundredthsOf}
-use Rattle.decimal_text.specs.Written.{signText, trimmed, pointed, exponentText, writtenOf, wholeText, twoDecimals}
-use Rattle.sources.specs.Source.{sourceText, isSource, findSource, sourceOf, listOf, listText}
-use Rattle.sources.specs.Entries.{onto, parts, sourceTexts, entriesOf, opens, entriesNumber, entriesList}
+use Rattle.buffer.specs.Byte.{sameText}
 use Rattle.settings.specs.Settings.{factory, putOf}
-use Rattle.settings.specs.Sent.{unitText, transitionText, streamText, readText}
+use Rattle.settings.specs.Sent.{readText}
 use Rattle.settings.specs.declared.Key.{Key}
 use Rattle.settings.specs.declared.Key.the-variants.{DA, DU, C1, CM, CC, FC, ST, SM}
-use Rattle.forms.specs.Forms.{addressData, unitData, factorIn, factorOf, digitData, digitOf, limitedOf, directOf, betweenOf, endsOf, transitionOf, transitionData, idleList, knownMode, streamOf, streamData}
-use Rattle.forms.specs.Judged.{verdictOf, verdictNumber, ifSet, listIn}
+use Rattle.forms.specs.Judged.{verdictOf, verdictNumber, listIn}
 use Rattle.forms.specs.declared.Verdict.{Verdict}
 use Rattle.forms.specs.declared.Verdict.the-variants.{Set, Refused}
 use Rattle.buffer.specs.Quoted.{bytes}
@@ -122,11 +113,6 @@ cases =
 abbrev pub right : Case → Bool
 right c = eqb (verdictNumber (verdictOf (c .key) (c .text))) (c .number)
 
--- each case has the paper's answer
-pub all-right : every right cases ≡ true
-unfolding bytes verdictOf addressData unitData factorIn factorOf digitData digitOf limitedOf directOf betweenOf endsOf transitionOf transitionData idleList knownMode streamOf streamData numberOf answerOf scanOf unsignedOf fractionOf exponentOf powerOf leading startsWith normalOf sizeOf units plus minus belowOf countedOf hundredthsOf sourceText isSource findSource sourceOf onto parts sourceTexts entriesOf opens entriesNumber unitText within every sameText untilOf numeralFrom pick
-all-right = refl
-
 -- a write's data to a gauge at factory settings, and what a read then sends
 pub record Sends : Type 0 where
   pub key : Key
@@ -161,8 +147,3 @@ sentAfter key text (Refused k) = []
 
 abbrev pub well : Sends → Bool
 well c = sameText (sentAfter (c .key) (c .text) (verdictOf (c .key) (c .text))) (c .sent)
-
--- each write is then read as the paper says
-pub all-sent : every well sends ≡ true
-unfolding bytes verdictOf addressData unitData factorIn factorOf digitData digitOf limitedOf directOf betweenOf endsOf transitionOf transitionData idleList knownMode streamOf streamData numberOf answerOf scanOf unsignedOf fractionOf exponentOf powerOf leading startsWith normalOf sizeOf units plus minus belowOf countedOf hundredthsOf sourceText isSource findSource sourceOf onto parts sourceTexts entriesOf opens entriesNumber unitText within every sameText untilOf numeralFrom pick ifSet listIn entriesList putOf readText transitionText streamText listOf listText writtenOf signText trimmed pointed exponentText wholeText twoDecimals
-all-sent = refl

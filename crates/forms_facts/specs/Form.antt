@@ -1,4 +1,4 @@
--- Document 01, the column "Data": the form of each setting's text. Assumes nothing.
+-- Document 01, the column "Data": the form of each setting's text.
 use mathlib.Core.Path.{_≡_}
 use mathlib.Core.Bool.{true, false}
 use mathlib.Core.List.{List, [], _∷_, _++_}

@@ -1,4 +1,4 @@
--- Document 01, the column "Data": values within the limits. Assumes nothing.
+-- Document 01, the column "Data": values within the limits.
 use mathlib.Core.Path.{_≡_}
 use mathlib.Core.Bool.{true, false}
 use Prim.Native.Nat.{_≤_}
@@ -7,6 +7,8 @@ use Rattle.decimal.specs.declared.Number.{Number}
 use Rattle.decimal_facts.specs.Canonical.{Canonical}
 use Rattle.settings.specs.Limits.{standard}
 use Rattle.settings.specs.Settings.{Held}
+use Rattle.settings.specs.declared.Key.{Key}
+use Rattle.settings.specs.declared.Key.the-variants.{DA, DU, C1, CM, CC, FC, ST, SM}
 use Rattle.settings.specs.declared.Transition.the-variants.{Direct, Between}
 use Rattle.settings.specs.declared.Setting.{Setting}
 use Rattle.settings.specs.declared.Setting.the-variants.{Address, PressureIn, Factor, Control, Cathode, Filament, Switch, Stream}
@@ -39,3 +41,14 @@ pub record SoundSettings (s : Held) : Type 0 where
   pub filament : Sound (Filament (s .filament))
   pub transition : Sound (Switch (s .transition))
   pub list : Short (s .list)
+
+-- the value that settings hold for a command
+abbrev pub settingIn : Key → Held → Setting
+settingIn DA s = Address (s .address)
+settingIn DU s = PressureIn (s .unit)
+settingIn C1 s = Factor (s .factor)
+settingIn CM s = Control (s .control)
+settingIn CC s = Cathode (s .cathode)
+settingIn FC s = Filament (s .filament)
+settingIn ST s = Switch (s .transition)
+settingIn SM s = Stream (s .streaming)

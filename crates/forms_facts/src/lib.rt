@@ -1,1 +1,1 @@
-// Document 01, "Settings and readings, V2", the column "Data": theorems only, in specs/.
+// Document 01, "Settings and readings, V2", the column "Data": theorems, see specs/Theorems.antt.

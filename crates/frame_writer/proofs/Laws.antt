@@ -1,4 +1,4 @@
--- Laws of frames that are written. Assumes nothing.
+-- Laws of frames that are written.
 use mathlib.Core.Path.{_≡_, sym, ap, _∙_}
 use mathlib.Core.Bool.{Bool, true, false, not}
 use mathlib.Core.List.{List, [], _∷_, _++_}

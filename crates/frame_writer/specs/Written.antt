@@ -1,4 +1,4 @@
--- Document 01, "Text frames": the bytes of a frame, and the answer of a frame's writer. Assumes nothing.
+-- Document 01, "Text frames": the bytes of a frame, and the answer of a frame's writer.
 use mathlib.Core.Bool.{Bool, not, _&&_}
 use mathlib.Core.List.{List, [], _∷_, _++_}
 use Prim.Native.Nat.{ℕ}
@@ -31,6 +31,10 @@ carriesV2 h bytes = isDigit (h .access) && within 32 126 (h .first) && within 32
 unfoldable pub carriesV1 : HeadV1 → List ℕ → Bool
 carriesV1 h bytes = isLetter (h .letter) && dataFit 6 bytes
 
+-- an address that a frame can hold: "4 (address outside 1 to 999)"
+abbrev pub isAddress : ℕ → Bool
+isAddress a = within 1 999 a
+
 -- what a writer answers that is lent `room` bytes, told whether a frame can carry what is to be written: the frame, or 1 ROOM where it does
 -- not fit, 2 SHAPE where it can be no frame, 4 ADDRESS where the address is outside 1 to 999
 unfoldable pub frameWritten : ℕ → Bool → ℕ → List ℕ → Answer
@@ -38,7 +42,7 @@ frameWritten room carried address frame =
     first
     (ltb room (length frame) ⇒ silent 1
     ∷ not carried ⇒ silent 2
-    ∷ not (within 1 999 address) ⇒ silent 4
+    ∷ not (isAddress address) ⇒ silent 4
     ∷ [])
     (record { number = 0; reply = frame })
 

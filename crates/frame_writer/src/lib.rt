@@ -4,12 +4,12 @@ ghost use mathlib.Core.Path.{_≡_};
 ghost use mathlib.Core.List.{_++_};
 ghost use Prim.Native.Nat.{_≤_};
 ghost use lib.ListN.{length, take};
-ghost use Rattle.buffer.specs.Byte.{within, sameText};
 ghost use Rattle.buffer.specs.Answer.{Stored, Sent};
 ghost use Rattle.buffer.specs.Text.{textOf};
 ghost use Rattle.frames.specs.Checksum.{endOf, closed};
-ghost use Rattle.frame_writer.specs.Written.{dataFit, carriesV2, carriesV1, frameWritten, writtenV2, writtenV1};
-ghost use Rattle.frame_writer.specs.Error.{errorBytes, errorOf, errorHeadV2, errorHeadV1, errorDataV1};
+ghost use Rattle.frame_writer.specs.Written.{dataFit, isAddress, carriesV2, carriesV1, frameWritten, writtenV2, writtenV1};
+ghost use Rattle.error_texts.specs.Texts.{errorBytes, errorOf};
+ghost use Rattle.frame_writer.specs.Error.{errorHeadV2, errorHeadV1, errorDataV1};
 
 // Stores the checksum of all that stands before `at`, and CR: the end of a frame and of a frameless line.
 pub fn put_end(out: &mut [u8], at: usize)
@@ -24,7 +24,7 @@ pub fn put_end(out: &mut [u8], at: usize)
 
 // An address that a frame can hold: 1 to 999.
 pub fn is_address(address: u16) -> bool
-    ensures { λ r. ⌜ r ≡ within 1 999 address ⌝ }
+    ensures { λ r. ⌜ r ≡ isAddress address ⌝ }
 {
     1 <= address && address <= 999
 }
@@ -155,59 +155,11 @@ pub fn write_text_v1(out: &mut [u8], head: frames::HeadV1, text: buffer::Text) -
 
 // ---- error frames
 
-// The six error texts of V2.
-pub enum ErrorText {
-    Length,
-    Logic,
-    NoDef,
-    Syntax,
-    Range,
-    Error1,
-}
-
-// The six bytes of an error text.
-pub fn error_bytes(e: ErrorText) -> [u8; 6]
-    ensures { λ r. ⌜ r ≡ errorBytes e ⌝ }
-{
-    match e {
-        ErrorText::Length => [b'L', b'E', b'N', b'G', b'T', b'H'],
-        ErrorText::Logic => [b'_', b'L', b'O', b'G', b'I', b'C'],
-        ErrorText::NoDef => [b'N', b'O', b'_', b'D', b'E', b'F'],
-        ErrorText::Syntax => [b'S', b'Y', b'N', b'T', b'A', b'X'],
-        ErrorText::Range => [b'_', b'R', b'A', b'N', b'G', b'E'],
-        ErrorText::Error1 => [b'E', b'R', b'R', b'O', b'R', b'1'],
-    }
-}
-
-// Whether a text is this error text.
-pub fn is_error_text(s: &[u8], e: ErrorText) -> bool
-    ensures { λ r. ⌜ r ≡ sameText (now (s .entry)) (errorBytes e) ⌝ }
-{
-    let text = error_bytes(e);
-    buffer::is_same(s, &text)
-}
-
-// The error text of an answer number from 6 to 13.
-pub fn error_of(number: u8) -> ErrorText
-    ensures { λ r. ⌜ r ≡ errorOf number ⌝ }
-{
-    match number {
-        6 => ErrorText::Length,
-        7 => ErrorText::Logic,
-        8 => ErrorText::NoDef,
-        9 => ErrorText::Logic,
-        10 => ErrorText::Syntax,
-        11 => ErrorText::Range,
-        12 => ErrorText::Logic,
-        _ => ErrorText::Error1,
-    }
-}
-
 // Writes the error frame that answers a V2 request with this head.
 pub fn write_error_v2(out: &mut [u8], head: frames::HeadV2, number: u8) -> buffer::Written
     ensures { λ r. ⌜ Sent (now (out .entry)) (writtenV2 (length (now (out .entry))) (errorHeadV2 head) (errorBytes (errorOf number))) (now (out .exit)) r ⌝ }
 {
-    let text = error_bytes(error_of(number));
+    let text = error_texts::error_bytes(error_texts::error_of(number));
     let answer = frames::HeadV2 {
         address: head.address,
         access: b'7',
@@ -234,7 +186,7 @@ pub fn write_error_v1(out: &mut [u8], head: frames::HeadV1, number: u8) -> buffe
         );
     }
     if number == 11 {
-        let text = error_bytes(ErrorText::Range);
+        let text = error_texts::error_bytes(error_texts::ErrorText::Range);
         return write_v1(out, head, &text);
     }
     if number == 13 {
@@ -248,6 +200,6 @@ pub fn write_error_v1(out: &mut [u8], head: frames::HeadV1, number: u8) -> buffe
             &text,
         );
     }
-    let text = error_bytes(ErrorText::Logic);
+    let text = error_texts::error_bytes(error_texts::ErrorText::Logic);
     write_v1(out, head, &text)
 }

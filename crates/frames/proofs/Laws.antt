@@ -1,4 +1,4 @@
--- Laws of the checksum and of what a frame is. Assumes nothing.
+-- Laws of the checksum and of what a frame is.
 use mathlib.Core.Path.{_≡_, refl, sym, ap, _∙_}
 use mathlib.Core.Bool.{Bool, true, false, not, true≢false, false≢true}
 use mathlib.Core.List.{List, [], _∷_}

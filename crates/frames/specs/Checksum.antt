@@ -1,4 +1,4 @@
--- Document 01, "Text frames": the checksum. Assumes nothing.
+-- Document 01, "Text frames": the checksum.
 use mathlib.Core.List.{List, [], _∷_, _++_}
 use Prim.Native.Nat.{ℕ, _+_, _%_}
 

@@ -1,4 +1,4 @@
--- Document 01, "Text frames": any bytes read as a frame, or refused with 2, 3, 4 or 6. Assumes nothing.
+-- Document 01, "Text frames": any bytes read as a frame, or refused with 2, 3, 4 or 6.
 use mathlib.Core.Bool.{Bool, true, false, not, _||_}
 use mathlib.Core.List.{List, [], _∷_}
 use Prim.Native.Nat.{ℕ, _-_}

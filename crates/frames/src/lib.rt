@@ -105,6 +105,20 @@ pub fn data_from<'a>(s: &'a [u8], start: usize) -> &'a [u8]
     &s[start..n - 2]
 }
 
+// The data of a V1 frame: after the address and the letter.
+pub fn data_v1<'a>(s: &'a [u8]) -> &'a [u8]
+    ensures { λ r. ⌜ now r ≡ dataFrom 4 (now (s .entry)) ⌝ }
+{
+    data_from(s, 4)
+}
+
+// The data of a V2 frame: after the address, the access code, the command and LEN.
+pub fn data_v2<'a>(s: &'a [u8]) -> &'a [u8]
+    ensures { λ r. ⌜ now r ≡ dataFrom 8 (now (s .entry)) ⌝ }
+{
+    data_from(s, 8)
+}
+
 fn has_wrong_sum(s: &[u8]) -> bool
     requires { ⌜ 2 ≤ length (now s) ⌝ }
     ensures { λ r. ⌜ r ≡ wrongSum (now (s .entry)) ⌝ }

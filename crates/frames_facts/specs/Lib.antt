@@ -1,6 +1,5 @@
--- What follows from the definitions of `frames` and `frame_writer`.
-pub mod Shape
+-- Document 01, "Text frames": what holds of reading and writing frames, to lay beside the paper. Sendable says what can be a frame, Examples has
+-- worked cases, Theorems says what holds.
 pub mod ReadBack
-pub mod Exactly
-pub mod Accepted
 pub mod Examples
+pub mod Theorems

@@ -1,1 +1,1 @@
-// Theorems on frames, over the definitions of `frames` and `frame_writer`: see specs/ReadBack.antt, Exactly.antt and Accepted.antt.
+// Theorems on frames, over the definitions of `frames` and `frame_writer`: see specs/Theorems.antt.

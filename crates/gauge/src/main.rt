@@ -55,7 +55,7 @@ fn with_word(g: gauge_rules::Gauge, word: &[u8]) -> Started {
     }
     match bench_words::read_setting(&word[..n], buffer::rest(word, n + 1)) {
         bench_words::Worded::Is(b) => set(g, word, b),
-        bench_words::Worded::Isnt => malformed(g, word),
+        bench_words::Worded::Refused => malformed(g, word),
     }
 }
 

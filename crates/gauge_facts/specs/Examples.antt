@@ -1,54 +1,25 @@
 -- Document 01's rules of the text gauge at work: worked cases, their numbers and replies taken from an independent reading of the paper.
--- Assumes nothing.
-use mathlib.Core.Path.{_≡_, refl}
 use mathlib.Core.Bool.{Bool, false}
 use mathlib.Core.List.{List, [], _∷_, _++_, map}
 use Prim.Native.Nat.{ℕ}
 use Prim.Native.String.{String}
 use Rattle.buffer.specs.Answer.{Answer, silent}
-use Rattle.buffer.specs.Byte.{within, every, sameText, untilOf, numeralFrom}
-use Rattle.buffer.specs.First.{pick}
 use Rattle.buffer.specs.Quoted.{bytes}
-use Rattle.frames.specs.Checksum.{sumOf, checksumOf, endOf, closed}
-use Rattle.frames.specs.Frame.{isLetter, lengthFits, misshapen, wrongSum, wrongAddress, wrongLength, headV1, headV2}
-use Rattle.frame_writer.specs.Error.{errorOf, errorBytes, errorHeadV2, errorHeadV1, errorLetterV1, errorDataV1}
-use Rattle.frame_writer.specs.Written.{frameV1, frameV2}
-use Rattle.decimal.specs.Exact.{normalOf, sizeOf, units}
-use Rattle.decimal.specs.Form.{numberOf, answerOf, scanOf, unsignedOf, fractionOf, exponentOf, powerOf, leading, startsWith}
-use Rattle.decimal.specs.Number.{plus, minus, belowOf, countedOf, hundredthsOf}
-use Rattle.decimal_text.specs.Written.{writtenOf, signText, trimmed, pointed, exponentText, wholeText, twoDecimals}
-use Rattle.sources.specs.Entries.{onto, parts, sourceTexts, entriesOf, opens, entriesNumber, entriesList}
-use Rattle.sources.specs.Source.{sourceText, isSource, findSource, sourceOf, listText}
-use Rattle.settings.specs.Limits.{widthOf, widest, longestLine}
-use Rattle.settings.specs.Sent.{unitText, transitionText, streamText, readText}
-use Rattle.settings.specs.Settings.{factoryOf, putOf, restoreOf}
 use Rattle.settings.specs.declared.Key.the-variants.{DA, DU, C1, CM, CC, FC, ST, SM}
-use Rattle.readings.specs.Bench.{takes, pressureAt, temperatureAt, pressureOf, degreesOf, temperatureOf, benchOf, benchNumber}
-use Rattle.readings.specs.Measure.{sixOf, roundedText, measureText}
-use Rattle.readings.specs.Reading.{putReading, pressureText, temperatureText, valueText, isFaulty, isFailed}
+use Rattle.readings.specs.Bench.{benchOf, benchNumber}
 use Rattle.readings.specs.declared.Bench.{Bench}
-use Rattle.readings.specs.declared.Bench.the-variants.{Reads, BelowRange, AboveRange, Fault, Status}
+use Rattle.readings.specs.declared.Bench.the-variants.{Reads, UnderRange, OverRange, Faulty, Status}
 use Rattle.readings_facts.specs.Examples.{decimals, below, zeros}
-use Rattle.forms.specs.Forms.{addressData, unitData, factorIn, factorOf, digitData, digitOf, limitedOf, directOf, betweenOf, endsOf, transitionOf, transitionData, idleList, knownMode, streamOf, streamData}
-use Rattle.forms.specs.Judged.{verdictOf, ifSet, listIn}
-use Rattle.requests.specs.AskV1.{sixDigits, bareOf, digitOne, oneOf, unitAt, askV1}
-use Rattle.requests.specs.AskV2.{setOf, writeOf, askKnown, askNamed, askV2, writeList, namedList, askList}
-use Rattle.requests.specs.Command.{commandOf, commandText, findCommand, isAccess, canWrite, canRestore, lacksAccess}
 use Rattle.requests.specs.declared.Command.the-variants.{FS, Of}
-use Rattle.line.specs.Line.{valueOf, valuesOf, tailOf, joined, lineAnswer}
-use Rattle.request_texts.specs.RequestText.{unitCode}
-use Rattle.gauge_rules_v1.specs.RulesV1.{textV1, repeats, unlocks, enterV1}
-use Rattle.gauge_rules.specs.RulesV2.{filamentOf, changesCathode, readsFaulty, sentText, textV2, answerCode, enterV2}
+use Rattle.line.specs.Line.{lineAnswer}
+use Rattle.gauge_rules.specs.RulesV2.{sentText}
 use Rattle.gauge_rules.specs.State.{State, fresh}
-use Rattle.gauge_table.specs.After.{answerOf as tableAnswer, enteredV2, enteredV1, asksUnlock, afterwards, nextOf, benched}
-use Rattle.gauge_table.specs.Asked.{unknownCommand, lacks, dataNumber, badFormV2, outsideV2, endsWrong, breaksRule, asksFaulty, unknownLetter, badFormV1, lockedWrite, outsideV1, measuresFaulty}
-use Rattle.gauge_table.specs.Reply.{acceptedV2, acceptedV1, replyOf}
-use Rattle.gauge_table.specs.Table.{numberOf as tableNumber}
+use Rattle.gauge_table.specs.After.{answerOf as tableAnswer, nextOf, benched}
 
 -- a call that reaches a text gauge: a request with so much memory lent, a bench setting, the stream line with so much memory lent
 pub data Call : Type 0 where
   Request : ℕ → List ℕ → Call
-  Setting : Bench → Call
+  SetBench : Bench → Call
   Line : ℕ → Call
 
 abbrev pub lending : ℕ → String → Call
@@ -59,12 +30,12 @@ ask text = lending 64 text
 
 abbrev pub answered : State → Call → Answer
 answered g (Request room s) = tableAnswer g room s
-answered g (Setting b) = silent (benchNumber (benchOf b))
+answered g (SetBench b) = silent (benchNumber (benchOf b))
 answered g (Line room) = lineAnswer room (g .settings) (g .readings)
 
 abbrev pub after : State → Call → State
 after g (Request room s) = nextOf g room s
-after g (Setting b) = benched g (benchOf b)
+after g (SetBench b) = benched g (benchOf b)
 after g (Line room) = g
 
 -- ---- a call to a gauge that was fresh before the calls given
@@ -132,11 +103,11 @@ order =
     ∷ expect "0014SM00E\r" 9 "0017SM06_LOGIC[\r"
     -- SYNTAX: data with a default before LOGIC, data with a read before FAULT, none with a write
     ∷ expect "0014CC011]\r" 10 "0017CC06SYNTAX[\r"
-    ∷ then (Setting (Fault 0) ∷ []) "0010MV011v\r" 10 "0017MV06SYNTAXx\r"
+    ∷ then (SetBench (Faulty 0) ∷ []) "0010MV011v\r" 10 "0017MV06SYNTAXx\r"
     ∷ expect "0012CC00i\r" 10 "0017CC06SYNTAX[\r"
     -- FAULT of the sensor asked for, and of no other
-    ∷ then (Setting (Fault 8) ∷ []) "0010MV00D\r" 0 "0011MV031e0N\r"
-    ∷ then (Setting (Fault 8) ∷ []) "0010T200g\r" 13 "0017T206ERROR1o\r"
+    ∷ then (SetBench (Faulty 8) ∷ []) "0010MV00D\r" 0 "0011MV031e0N\r"
+    ∷ then (SetBench (Faulty 8) ∷ []) "0010T200g\r" 13 "0017T206ERROR1o\r"
     ∷ []
 
 -- settings over V2
@@ -149,8 +120,8 @@ settings =
     ∷ expect "0014CC00k\r" 12 "0017CC06_LOGICA\r"
     ∷ then (ask "0012CM010d\r" ∷ ask "0012CC010Z\r" ∷ ask "0012CM011e\r" ∷ []) "0010CC00g\r" 0 "0011CC010Y\r"
     -- FN: FC 3 counts as 0; FC 1 wins over FS 1
-    ∷ then (ask "0012FC013`\r" ∷ Setting (Status 1) ∷ []) "0010FN00u\r" 0 "0011FN012i\r"
-    ∷ then (ask "0012FC011^\r" ∷ Setting (Status 1) ∷ []) "0010FN00u\r" 0 "0011FN011h\r"
+    ∷ then (ask "0012FC013`\r" ∷ SetBench (Status 1) ∷ []) "0010FN00u\r" 0 "0011FN012i\r"
+    ∷ then (ask "0012FC011^\r" ∷ SetBench (Status 1) ∷ []) "0010FN00u\r" 0 "0011FN011h\r"
     -- DA: a write and a restore are answered from the old address, which is then another; RANGE, SYNTAX
     ∷ expect "0012DA03005@\r" 0 "0013DA00i\r"
     ∷ then (ask "0012DA03005@\r" ∷ []) "0010DA00f\r" 5 ""
@@ -229,16 +200,16 @@ overV1 =
     ∷ expect "001CT\r" 10 "001C_LOGICa\r"
     ∷ expect "001C2F\r" 11 "001C_RANGE`\r"
     ∷ expect "001c0100u\r" 10 "001c_LOGICA\r"
-    ∷ then (Setting (Fault 0) ∷ []) "001M1O\r" 10 "001M_LOGICk\r"
+    ∷ then (SetBench (Faulty 0) ∷ []) "001M1O\r" 10 "001M_LOGICk\r"
     -- `M`: faulty, under range; 9.9995 and 9.99995e9 rounded up into the next decade, 1.0005 half up
-    ∷ then (Setting (Fault 0) ∷ []) "001M^\r" 13 "001M1O\r"
-    ∷ then (Setting (BelowRange 0) ∷ []) "001M^\r" 0 "001M000000~\r"
-    ∷ then (Setting (Reads 0 (decimals 99995 4)) ∷ []) "001M^\r" 0 "001M100021B\r"
-    ∷ then (Setting (Reads 0 (zeros 999995 4)) ∷ []) "001M^\r" 0 "001M100030B\r"
-    ∷ then (Setting (Reads 0 (decimals 10005 4)) ∷ []) "001M^\r" 0 "001M100120B\r"
+    ∷ then (SetBench (Faulty 0) ∷ []) "001M^\r" 13 "001M1O\r"
+    ∷ then (SetBench (UnderRange 0) ∷ []) "001M^\r" 0 "001M000000~\r"
+    ∷ then (SetBench (Reads 0 (decimals 99995 4)) ∷ []) "001M^\r" 0 "001M100021B\r"
+    ∷ then (SetBench (Reads 0 (zeros 999995 4)) ∷ []) "001M^\r" 0 "001M100030B\r"
+    ∷ then (SetBench (Reads 0 (decimals 10005 4)) ∷ []) "001M^\r" 0 "001M100120B\r"
     -- `M`: 9.9994, and 982.1
-    ∷ then (Setting (Reads 0 (decimals 99994 4)) ∷ []) "001M^\r" 0 "001M999920d\r"
-    ∷ then (Setting (Reads 0 (decimals 9821 1)) ∷ []) "001M^\r" 0 "001M982122V\r"
+    ∷ then (SetBench (Reads 0 (decimals 99994 4)) ∷ []) "001M^\r" 0 "001M999920d\r"
+    ∷ then (SetBench (Reads 0 (decimals 9821 1)) ∷ []) "001M^\r" 0 "001M982122V\r"
     -- an unknown letter; `u` outside and with one digit; `u` writes DU for V2 too
     ∷ expect "001Te\r" 8 "001NO_DEF\\\r"
     ∷ expect "001u000003i\r" 11 "001u_RANGER\r"
@@ -248,10 +219,10 @@ overV1 =
     ∷ expect "001C1E\r" 0 "001C000100u\r"
     ∷ expect "0010C100U\r" 0 "0011C1041.00Y\r"
     -- MV as written, whatever DU and C1 hold; T2 with two decimals
-    ∷ then (Setting (Reads 0 (decimals 9734 1)) ∷ []) "0010MV00D\r" 0 "0011MV079.734e2h\r"
-    ∷ then (Setting (Reads 0 (decimals 9734 1)) ∷ ask "0012DU04Torrg\r" ∷ ask "0012C1042.22_\r" ∷ []) "0010MV00D\r" 0 "0011MV079.734e2h\r"
-    ∷ then (Setting (Reads 8 (below 5 2)) ∷ []) "0010T200g\r" 0 "0011T205-0.05]\r"
-    ∷ then (Setting (Reads 8 (decimals 0 2)) ∷ []) "0010T200g\r" 0 "0011T2040.00j\r"
+    ∷ then (SetBench (Reads 0 (decimals 9734 1)) ∷ []) "0010MV00D\r" 0 "0011MV079.734e2h\r"
+    ∷ then (SetBench (Reads 0 (decimals 9734 1)) ∷ ask "0012DU04Torrg\r" ∷ ask "0012C1042.22_\r" ∷ []) "0010MV00D\r" 0 "0011MV079.734e2h\r"
+    ∷ then (SetBench (Reads 8 (below 5 2)) ∷ []) "0010T200g\r" 0 "0011T205-0.05]\r"
+    ∷ then (SetBench (Reads 8 (decimals 0 2)) ∷ []) "0010T200g\r" 0 "0011T2040.00j\r"
     ∷ []
 
 -- the stream line
@@ -261,12 +232,12 @@ lines =
     line [] 95 1 ""
     ∷ line [] 96 0 ""
     -- source 0 alone; the list in order; a faulty source is a value; source 7 at zero
-    ∷ line (ask "0012SM014x\r" ∷ Setting (Reads 0 (decimals 9734 1)) ∷ []) 96 0 "9.734e2\\\r"
-    ∷ line (ask "0012SM064DT2D7B\r" ∷ Setting (Reads 0 (decimals 9734 1)) ∷ Setting (Reads 7 (decimals 1 1)) ∷ Setting (Reads 8 (decimals 2325 2)) ∷ []) 96 0 "9.734e2;23.25;1e-1@\r"
-    ∷ line (ask "0012SM064D7DT2B\r" ∷ Setting (Fault 7) ∷ Setting (AboveRange 0) ∷ []) 96 0 "OR;ERROR1;20.00B\r"
-    ∷ line (ask "0012SM034D7u\r" ∷ Setting (Reads 7 (decimals 0 0)) ∷ []) 96 0 "1e0;0q\r"
+    ∷ line (ask "0012SM014x\r" ∷ SetBench (Reads 0 (decimals 9734 1)) ∷ []) 96 0 "9.734e2\\\r"
+    ∷ line (ask "0012SM064DT2D7B\r" ∷ SetBench (Reads 0 (decimals 9734 1)) ∷ SetBench (Reads 7 (decimals 1 1)) ∷ SetBench (Reads 8 (decimals 2325 2)) ∷ []) 96 0 "9.734e2;23.25;1e-1@\r"
+    ∷ line (ask "0012SM064D7DT2B\r" ∷ SetBench (Faulty 7) ∷ SetBench (OverRange 0) ∷ []) 96 0 "OR;ERROR1;20.00B\r"
+    ∷ line (ask "0012SM034D7u\r" ∷ SetBench (Reads 7 (decimals 0 0)) ∷ []) 96 0 "1e0;0q\r"
     -- the longest line, of eight values and 96 bytes; 95 bytes lent are refused for a short line too
-    ∷ line (ask "0012SM154D7D7D7D7D7D7D7Z\r" ∷ Setting (Reads 0 (decimals 123456 14)) ∷ Setting (Reads 7 (below 123456 14)) ∷ []) 96 0 "1.23456e-9;-1.23456e-9;-1.23456e-9;-1.23456e-9;-1.23456e-9;-1.23456e-9;-1.23456e-9;-1.23456e-9H\r"
+    ∷ line (ask "0012SM154D7D7D7D7D7D7D7Z\r" ∷ SetBench (Reads 0 (decimals 123456 14)) ∷ SetBench (Reads 7 (below 123456 14)) ∷ []) 96 0 "1.23456e-9;-1.23456e-9;-1.23456e-9;-1.23456e-9;-1.23456e-9;-1.23456e-9;-1.23456e-9;-1.23456e-9H\r"
     ∷ line (ask "0012SM014x\r" ∷ []) 95 1 ""
     ∷ []
 
@@ -280,7 +251,7 @@ abbrev pub asks : String → ℕ → String → Step
 asks text number reply = record { call = ask text; answer = record { number = number; reply = bytes reply } }
 
 abbrev pub sets : Bench → ℕ → Step
-sets setting number = record { call = Setting setting; answer = silent number }
+sets setting number = record { call = SetBench setting; answer = silent number }
 
 abbrev pub streams : ℕ → ℕ → String → Step
 streams room number reply = record { call = Line room; answer = record { number = number; reply = bytes reply } }
@@ -374,12 +345,12 @@ longest =
 abbrev pub faulty : Course
 faulty =
     course
-    (sets (Fault 0) 0
+    (sets (Faulty 0) 0
     ∷ asks "0010MV00D\r" 13 "0017MV06ERROR1L\r"
     ∷ asks "001M^\r" 13 "001M1O\r"
     ∷ asks "0012SM034D1o\r" 0 "0013SM00D\r"
     ∷ streams 96 0 "ERROR1;1e0|\r"
-    ∷ sets (AboveRange 0) 0
+    ∷ sets (OverRange 0) 0
     ∷ asks "0010MV00D\r" 0 "0011MV02ORh\r"
     ∷ asks "001M^\r" 0 "001M999999t\r"
     ∷ streams 96 0 "OR;1e0b\r"
@@ -391,7 +362,7 @@ abbrev pub refusedBench : Course
 refusedBench =
     course
     (sets (Reads 0 (decimals 0 0)) 15
-    ∷ sets (BelowRange 8) 15
+    ∷ sets (UnderRange 8) 15
     ∷ sets (Status 4) 15
     ∷ asks "0010MV00D\r" 0 "0011MV031e0N\r"
     ∷ asks "0010T200g\r" 0 "0011T20520.00]\r"
@@ -404,8 +375,3 @@ cases = order ++ settings ++ overV1 ++ lines
 
 abbrev pub courses : List Course
 courses = unlocking ∷ lastWins ∷ cathode ∷ longest ∷ faulty ∷ refusedBench ∷ []
-
--- each call gets the paper's number and reply; each sequence has the paper's answers, and the gauge then holds what the paper says
-pub all-right : (map given cases ≡ map paper cases) × (map run courses ≡ courses)
-unfolding bytes within every sameText untilOf numeralFrom pick sumOf checksumOf endOf closed isLetter lengthFits misshapen wrongSum wrongAddress wrongLength headV1 headV2 frameV1 frameV2 errorOf errorBytes errorHeadV2 errorHeadV1 errorLetterV1 errorDataV1 numberOf answerOf scanOf unsignedOf fractionOf exponentOf powerOf leading startsWith normalOf sizeOf units plus minus belowOf countedOf hundredthsOf writtenOf signText trimmed pointed exponentText wholeText twoDecimals sourceText isSource findSource sourceOf listText onto parts sourceTexts entriesOf opens entriesNumber entriesList factoryOf putOf restoreOf unitText transitionText streamText readText widthOf widest longestLine putReading pressureText temperatureText valueText isFaulty isFailed sixOf roundedText measureText takes pressureAt temperatureAt pressureOf degreesOf temperatureOf benchOf addressData unitData factorIn factorOf digitData digitOf limitedOf directOf betweenOf endsOf transitionOf transitionData idleList knownMode streamOf streamData verdictOf ifSet listIn commandOf findCommand commandText isAccess canWrite canRestore lacksAccess setOf writeOf askKnown askNamed askV2 writeList namedList askList sixDigits bareOf digitOne oneOf unitAt askV1 filamentOf changesCathode readsFaulty sentText textV2 answerCode enterV2 unitCode textV1 repeats unlocks enterV1 unknownCommand lacks dataNumber badFormV2 outsideV2 endsWrong breaksRule asksFaulty unknownLetter badFormV1 lockedWrite outsideV1 measuresFaulty tableNumber acceptedV2 acceptedV1 replyOf tableAnswer enteredV2 enteredV1 asksUnlock afterwards nextOf benched valueOf valuesOf tailOf joined lineAnswer following played ended
-all-right = (refl, refl)

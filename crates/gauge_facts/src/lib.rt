@@ -1,1 +1,1 @@
-// Document 01, "Answer numbers of the text gauge": theorems only, in specs/.
+// Document 01, "Answer numbers of the text gauge": theorems only; specs/ has the statements, proofs/ the proofs.

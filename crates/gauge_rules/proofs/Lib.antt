@@ -1,2 +1,3 @@
 -- Laws of the rules of the text gauge.
 pub mod Laws
+pub mod Open

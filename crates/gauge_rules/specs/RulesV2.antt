@@ -1,17 +1,15 @@
--- Document 01, "Settings and readings, V2": the rules that read the state, the replies' data, and what an accepted request enters. Assumes
--- nothing.
-use mathlib.Core.Path.{_≡_, refl}
+-- Document 01, "Settings and readings, V2": the rules that read the state, the replies' data, and what an accepted request enters.
 use mathlib.Core.Bool.{Bool, true, false, _&&_}
-use mathlib.Core.List.{List, [], _∷_, map}
+use mathlib.Core.List.{List, [], _∷_}
 use Prim.Native.Nat.{ℕ}
 use lib.Dec.{eqb}
-use Rattle.buffer.specs.First.{_⇒_, first, pick}
+use Rattle.buffer.specs.First.{_⇒_, first}
 use Rattle.buffer.specs.Byte.{within, digit}
 use Rattle.settings.specs.Settings.{Held, putOf, restoreOf}
 use Rattle.settings.specs.Sent.{readText}
 use Rattle.settings.specs.declared.Key.the-variants.{DA, DU, C1, CM, CC, FC, ST, SM}
 use Rattle.settings.specs.declared.Setting.the-variants.{Address, PressureIn, Factor, Control, Cathode, Filament, Switch, Stream}
-use Rattle.readings.specs.Reading.{pressureText, temperatureText, isFaulty, isFailed}
+use Rattle.readings.specs.Reading.{pressureText, temperatureText, faultyPressure, faultyTemperature}
 use Rattle.readings.specs.declared.Readings.{Readings}
 use Rattle.requests.specs.declared.Command.{Command}
 use Rattle.requests.specs.declared.Command.the-variants.{MV, T2, FN, FS, Of}
@@ -22,16 +20,6 @@ use Rattle.gauge_rules.specs.State.{State}
 -- "FN is FC when FC is 1 or 2; otherwise 2 if FS is 1 or 3, else 1."
 unfoldable pub filamentOf : ℕ → ℕ → ℕ
 filamentOf filament status = first (within 1 2 filament ⇒ filament ∷ eqb status 1 ⇒ 2 ∷ eqb status 3 ⇒ 2 ∷ []) 1
-
--- the same for each FC and FS that there is: a line for each FC, 0 to 3, with FN at FS 0 to 3
-pub filament-table : map (λ (filament : ℕ). map (filamentOf filament) (0 ∷ 1 ∷ 2 ∷ 3 ∷ [])) (0 ∷ 1 ∷ 2 ∷ 3 ∷ [])
-    ≡ (1 ∷ 2 ∷ 1 ∷ 2 ∷ [])
-    ∷ (1 ∷ 1 ∷ 1 ∷ 1 ∷ [])
-    ∷ (2 ∷ 2 ∷ 2 ∷ 2 ∷ [])
-    ∷ (1 ∷ 2 ∷ 1 ∷ 2 ∷ [])
-    ∷ []
-unfolding filamentOf within pick
-filament-table = refl
 
 -- a request that writes or restores CC
 unfoldable pub changesCathode : RequestV2 → Bool
@@ -59,8 +47,8 @@ changesCathode (Set (Stream v)) = false
 
 -- "the sensor asked for is faulty"
 unfoldable pub readsFaulty : Readings → RequestV2 → Bool
-readsFaulty r (Read MV) = isFaulty (r .p0)
-readsFaulty r (Read T2) = isFailed (r .t2)
+readsFaulty r (Read MV) = faultyPressure (r .p0)
+readsFaulty r (Read T2) = faultyTemperature (r .t2)
 readsFaulty r (Read FN) = false
 readsFaulty r (Read FS) = false
 readsFaulty r (Read (Of key)) = false

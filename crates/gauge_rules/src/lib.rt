@@ -8,7 +8,7 @@ ghost use Rattle.sources.specs.Source.{listOf, Counted};
 ghost use Rattle.settings.specs.Settings.{held};
 ghost use Rattle.requests.specs.declared.Command.{Command};
 ghost use Rattle.requests.specs.declared.RequestV2.{RequestV2};
-ghost use Rattle.gauge_rules.specs.State.{stateOf, fresh};
+ghost use Rattle.gauge_rules.specs.State.{stateOf, settled, measured, unlockedAs, fresh};
 ghost use Rattle.gauge_rules.specs.RulesV2.{filamentOf, changesCathode, readsFaulty, grantV2, sentText, textV2, answerCode, enterV2};
 
 // A gauge: its settings, its readings with FS, and whether it is unlocked.
@@ -28,6 +28,47 @@ impl Gauge {
             settings: settings::Settings::at_factory(),
             readings: readings::Readings::at_start(),
             unlocked: false,
+        }
+    }
+
+    // The gauge with these settings, and nothing else changed.
+    pub fn with_settings(self, settings: settings::Settings) -> Gauge
+        ensures { λ r. ⌜ stateOf r ≡ settled (stateOf self) (held settings) ⌝ }
+        ensures { λ r. ⌜ r .settings ≡ settings ⌝ }
+    {
+        let unlocked = self.unlocked;
+        let readings = self.readings;
+        Gauge {
+            settings,
+            readings,
+            unlocked,
+        }
+    }
+
+    // The gauge with these readings, and nothing else changed.
+    pub fn with_readings(self, readings: readings::Readings) -> Gauge
+        ensures { λ r. ⌜ stateOf r ≡ measured (stateOf self) readings ⌝ }
+        ensures { λ r. ⌜ r .settings ≡ self .settings ⌝ }
+    {
+        let settings = self.settings;
+        Gauge {
+            settings,
+            readings,
+            unlocked: self.unlocked,
+        }
+    }
+
+    // The gauge unlocked or locked, and nothing else changed.
+    pub fn with_unlock(self, unlocked: bool) -> Gauge
+        ensures { λ r. ⌜ stateOf r ≡ unlockedAs (stateOf self) unlocked ⌝ }
+        ensures { λ r. ⌜ r .settings ≡ self .settings ⌝ }
+    {
+        let settings = self.settings;
+        let readings = self.readings;
+        Gauge {
+            settings,
+            readings,
+            unlocked,
         }
     }
 }
@@ -120,8 +161,8 @@ fn has_fault(r: readings::Readings, command: requests::Command) -> bool
     let p0 = r.p0;
     let t2 = r.t2;
     match command {
-        requests::Command::MV => readings::is_faulty(p0),
-        requests::Command::T2 => readings::is_failed(t2),
+        requests::Command::MV => readings::is_faulty_pressure(p0),
+        requests::Command::T2 => readings::is_faulty_temperature(t2),
         requests::Command::FN => false,
         requests::Command::FS => false,
         requests::Command::Of(_) => false,

@@ -1,20 +1,19 @@
--- Laws of V1's rules. Assumes nothing.
+-- Laws of V1's rules.
 use mathlib.Core.Path.{_≡_, refl}
 use mathlib.Core.Bool.{Bool, true, false, not}
 use Prim.Native.Nat.{ℕ}
 use native.Mathlib.Omega.{arith}
 use Rattle.buffer.specs.First.{pick}
-use Rattle.buffer.specs.Byte.{within}
-use Rattle.settings.specs.Limits.{standard}
+use Rattle.settings.specs.Limits.{isFactor}
 use Rattle.gauge_rules_v1.specs.RulesV1.{factorNumber}
 
 -- an accepted factor is within its limits
-pub factor-in : (u : Bool) (n : ℕ) → factorNumber u n ≡ 0 → within (standard .factorLow) (standard .factorHigh) n ≡ true
+pub factor-in : (u : Bool) (n : ℕ) → factorNumber u n ≡ 0 → isFactor n ≡ true
 unfolding factorNumber pick
 factor-in false n e = absurd (omega arith)
-factor-in true n e = go (within 20 800 n) refl e
+factor-in true n e = go (isFactor n) refl e
   where
-    go : (b : Bool) → within 20 800 n ≡ b → pick {A = ℕ} (not b) 11 0 ≡ 0 → within 20 800 n ≡ true
+    go : (b : Bool) → isFactor n ≡ b → pick {A = ℕ} (not b) 11 0 ≡ 0 → isFactor n ≡ true
     go true t f = t
     go false t f = absurd (omega arith)
 

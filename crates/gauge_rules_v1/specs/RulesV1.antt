@@ -1,19 +1,18 @@
--- Document 01, "V1 on the same settings": the rules that read the state, the replies' data, and what an accepted request enters. Assumes
--- nothing.
+-- Document 01, "V1 on the same settings": the rules that read the state, the replies' data, and what an accepted request enters.
 use mathlib.Core.Bool.{Bool, true, false, not}
 use mathlib.Core.List.{List, [], _∷_}
 use Prim.Native.Nat.{ℕ}
 use lib.Dec.{eqb}
 use Rattle.buffer.specs.First.{_⇒_, first}
-use Rattle.buffer.specs.Byte.{within}
-use Rattle.settings.specs.Limits.{standard}
+use Rattle.settings.specs.Limits.{isFactor}
 use Rattle.settings.specs.Settings.{Held, putOf}
 use Rattle.settings.specs.declared.Setting.the-variants.{PressureIn, Factor}
-use Rattle.readings.specs.Reading.{isFaulty}
+use Rattle.readings.specs.Reading.{faultyPressure}
 use Rattle.readings.specs.Measure.{measureText}
 use Rattle.requests.specs.declared.RequestV1.{RequestV1}
 use Rattle.requests.specs.declared.RequestV1.the-variants.{Measure, ReadFactor, Unlock, SetFactor, ReadUnit, SetUnit}
-use Rattle.request_texts.specs.RequestText.{digits6, unitCode}
+use Rattle.settings.specs.Units.{unitCode}
+use Rattle.request_texts.specs.RequestText.{digits6}
 use Rattle.gauge_rules.specs.State.{State}
 
 -- "`c` with six digits, if unlocked, writes 20 to 800; locked is LOGIC, checked before the number."
@@ -21,12 +20,12 @@ unfoldable pub factorNumber : Bool → ℕ → ℕ
 factorNumber unlocked n =
     first
     (not unlocked ⇒ 12
-    ∷ not (within (standard .factorLow) (standard .factorHigh) n) ⇒ 11
+    ∷ not (isFactor n) ⇒ 11
     ∷ [])
     0
 
 unfoldable pub grantV1 : State → RequestV1 → ℕ
-grantV1 g Measure = first (isFaulty (g .readings .p0) ⇒ 13 ∷ []) 0
+grantV1 g Measure = first (faultyPressure (g .readings .p0) ⇒ 13 ∷ []) 0
 grantV1 g ReadFactor = 0
 grantV1 g Unlock = 0
 grantV1 g (SetFactor n) = factorNumber (g .unlocked) n

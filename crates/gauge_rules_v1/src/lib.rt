@@ -17,10 +17,7 @@ fn factor_number(unlocked: bool, n: u32) -> u8
     if !unlocked {
         return 12;
     }
-    if n < settings::Settings::FACTOR_MIN as u32 {
-        return 11;
-    }
-    if (settings::Settings::FACTOR_MAX as u32) < n {
+    if !settings::Settings::is_factor(n) {
         return 11;
     }
     0
@@ -34,7 +31,7 @@ pub fn number_v1(g: gauge_rules::Gauge, request: requests::RequestV1) -> u8
     let p0 = r.p0;
     match request {
         requests::RequestV1::Measure => {
-            if readings::is_faulty(p0) {
+            if readings::is_faulty_pressure(p0) {
                 return 13;
             }
             0
@@ -58,7 +55,7 @@ pub fn text_v1(g: gauge_rules::Gauge, request: requests::RequestV1) -> buffer::T
     match request {
         requests::RequestV1::Measure => readings::measure_text(p0),
         requests::RequestV1::ReadFactor => request_texts::six_digits(s.factor as u32),
-        requests::RequestV1::ReadUnit => request_texts::six_digits(request_texts::unit_code(unit)),
+        requests::RequestV1::ReadUnit => request_texts::six_digits(settings::unit_number(unit)),
         requests::RequestV1::Unlock => buffer::Text::EMPTY,
         requests::RequestV1::SetFactor(_) => buffer::Text::EMPTY,
         requests::RequestV1::SetUnit(_) => buffer::Text::EMPTY,

@@ -1,14 +1,14 @@
--- What the bytes of a request ask, and the tests of the table's rows on them, for each protocol. Assumes nothing.
+-- What the bytes of a request ask, and the tests of the table's rows on them, for each protocol.
 use mathlib.Core.Bool.{Bool, true, false, cond, not, _&&_, _||_}
 use mathlib.Core.List.{List, [], _∷_}
 use Prim.Native.Nat.{ℕ, _-_}
 use lib.Dec.{leb, eqb}
 use lib.ListN.{length}
 use Rattle.buffer.specs.First.{_⇒_, first}
-use Rattle.buffer.specs.Byte.{at, within, isDigit, numeral}
+use Rattle.buffer.specs.Byte.{at, isDigit, numeral}
 use Rattle.frames.specs.Frame.{isLetter, dataFrom, headV2}
-use Rattle.settings.specs.Limits.{standard}
-use Rattle.readings.specs.Reading.{isFaulty}
+use Rattle.settings.specs.Limits.{isFactor}
+use Rattle.readings.specs.Reading.{faultyPressure}
 use Rattle.forms.specs.Judged.{verdictOf, verdictNumber}
 use Rattle.requests.specs.Command.{writeCode, isAccess, lacksAccess}
 use Rattle.requests.specs.AskV2.{askV2}
@@ -17,7 +17,7 @@ use Rattle.requests.specs.declared.Command.the-variants.{MV, T2, FN, FS, Of}
 use Rattle.requests.specs.declared.Named.{Named}
 use Rattle.requests.specs.declared.Named.the-variants.{Known, Unknown}
 use Rattle.requests.specs.declared.AskV2.{AskV2}
-use Rattle.requests.specs.declared.AskV2.the-variants.{For, Refused}
+use Rattle.requests.specs.declared.AskV2.the-variants.{Asks, Refused}
 use Rattle.requests.specs.declared.AskV1.{AskV1}
 use Rattle.gauge_rules.specs.State.{State}
 use Rattle.gauge_rules.specs.RulesV2.{changesCathode, readsFaulty}
@@ -72,12 +72,12 @@ endsWrong a n d = eqb a writeCode && eqb (dataNumber n d) 12
 
 -- 12 LOGIC: "CC written or restored while CM is 1 is LOGIC."
 unfoldable pub breaksRule : State → AskV2 → Bool
-breaksRule g (For r) = changesCathode r && eqb (g .settings .control) 1
+breaksRule g (Asks r) = changesCathode r && eqb (g .settings .control) 1
 breaksRule g (Refused k) = false
 
 -- 13 FAULT: "the sensor asked for is faulty"
 unfoldable pub asksFaulty : State → AskV2 → Bool
-asksFaulty g (For r) = readsFaulty (g .readings) r
+asksFaulty g (Asks r) = readsFaulty (g .readings) r
 asksFaulty g (Refused k) = false
 
 -- ---- V1: l is the letter, d the data
@@ -109,7 +109,7 @@ unfoldable pub outsideV1 : ℕ → List ℕ → Bool
 outsideV1 l d =
     first
     (eqb l 67 ⇒ not (eqb (at d 0 - 48) 1)
-    ∷ (eqb l 99 && sixDigits d) ⇒ not (within (standard .factorLow) (standard .factorHigh) (numeral d))
+    ∷ (eqb l 99 && sixDigits d) ⇒ not (isFactor (numeral d))
     ∷ eqb l 99 ⇒ not (eqb (at d 0 - 48) 1)
     ∷ eqb l 117 ⇒ leb 3 (numeral d)
     ∷ [])
@@ -117,4 +117,4 @@ outsideV1 l d =
 
 -- 13 FAULT
 unfoldable pub measuresFaulty : State → ℕ → Bool
-measuresFaulty g l = eqb l 77 && isFaulty (g .readings .p0)
+measuresFaulty g l = eqb l 77 && faultyPressure (g .readings .p0)

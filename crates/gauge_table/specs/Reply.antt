@@ -1,4 +1,4 @@
--- Document 01, "Answer numbers of the text gauge": the reply's bytes. Assumes nothing.
+-- Document 01, "Answer numbers of the text gauge": the reply's bytes.
 use mathlib.Core.Bool.{_&&_}
 use mathlib.Core.List.{List, [], _∷_}
 use Prim.Native.Nat.{ℕ}
@@ -9,11 +9,10 @@ use Rattle.frames.specs.Frame.{headV1, headV2}
 use Rattle.frames.specs.declared.HeadV1.{HeadV1}
 use Rattle.frames.specs.declared.HeadV2.{HeadV2}
 use Rattle.frame_writer.specs.Written.{frameV1, frameV2}
-use Rattle.frame_writer.specs.Error.{errorOf, errorBytes, errorHeadV2, errorHeadV1, errorDataV1}
+use Rattle.error_texts.specs.Texts.{errorOf, errorBytes}
+use Rattle.frame_writer.specs.Error.{errorHeadV2, errorHeadV1, errorDataV1}
 use Rattle.requests.specs.declared.AskV2.{AskV2}
-use Rattle.requests.specs.declared.AskV2.the-variants.{For, Refused}
 use Rattle.requests.specs.declared.AskV1.{AskV1}
-use Rattle.requests.specs.declared.AskV1.the-variants.{Asks, Denied}
 use Rattle.gauge_rules.specs.State.{State}
 use Rattle.gauge_rules.specs.RulesV2.{answerCode, textV2}
 use Rattle.gauge_rules_v1.specs.RulesV1.{textV1, repeats}
@@ -32,13 +31,13 @@ answerHead h code = record { address = h .address; access = code; first = h .fir
 
 -- the reply to an accepted request; a write of DA is answered from the old address, which is the request's
 unfoldable pub acceptedV2 : State → HeadV2 → AskV2 → List ℕ
-acceptedV2 g h (For r) = frameV2 (answerHead h (answerCode r)) (textV2 g r)
-acceptedV2 g h (Refused k) = []
+acceptedV2 g h (AskV2.Asks r) = frameV2 (answerHead h (answerCode r)) (textV2 g r)
+acceptedV2 g h (AskV2.Refused k) = []
 
 -- "Set replies repeat the request."
 unfoldable pub acceptedV1 : State → List ℕ → HeadV1 → AskV1 → List ℕ
-acceptedV1 g s h (Asks r) = first (repeats r ⇒ s ∷ []) (frameV1 h (textV1 g r))
-acceptedV1 g s h (Denied k) = []
+acceptedV1 g s h (AskV1.Asks r) = first (repeats r ⇒ s ∷ []) (frameV1 h (textV1 g r))
+acceptedV1 g s h (AskV1.Refused k) = []
 
 -- 1 to 5 are silent
 unfoldable pub replyOf : State → List ℕ → ℕ → List ℕ

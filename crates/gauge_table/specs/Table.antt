@@ -1,4 +1,4 @@
--- Document 01, "Answer numbers of the text gauge": the table. Assumes nothing.
+-- Document 01, "Answer numbers of the text gauge": the table.
 use mathlib.Core.Bool.{Bool, false, cond, not}
 use mathlib.Core.List.{List, [], _∷_}
 use Prim.Native.Nat.{ℕ}

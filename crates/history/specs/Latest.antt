@@ -1,5 +1,4 @@
--- A history is the list of the calls that were made, the latest first. Assumes nothing.
-use mathlib.Core.Path.{_≡_, ap, _∙_}
+-- A history is the list of the calls that were made, the latest first.
 use mathlib.Core.List.{List, [], _∷_}
 use mathlib.Core.Option.{Option, none, some}
 
@@ -17,8 +16,3 @@ orElse (some a) d = a
 unfoldable pub latest : {E A : Type 0} → (E → Option A) → A → List E → A
 latest f d [] = d
 latest f d (e ∷ h) = orElse (f e) (latest f d h)
-
--- a state that follows what each call says holds what the latest said
-pub follows : {E A : Type 0} (f : E → Option A) (d : A) (e : E) (h : List E) (before after : A) → before ≡ latest f d h → after ≡ orElse (f e) before → after ≡ latest f d (e ∷ h)
-unfolding latest
-follows f d e h before after p q = q ∙ ap (orElse (f e)) p

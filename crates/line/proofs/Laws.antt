@@ -1,4 +1,4 @@
--- Laws of values as rows, and of rows as a line. Assumes nothing.
+-- Laws of values as rows, and of rows as a line.
 use mathlib.Core.Path.{_≡_, refl, _∙_}
 use mathlib.Core.Bool.{Bool, true, false, cond, not}
 use mathlib.Core.List.{List, [], _∷_, _++_, map}
@@ -16,12 +16,13 @@ use Rattle.buffer.specs.Answer.{silent, Stored}
 use Rattle.buffer.proofs.Rules.{each}
 use Rattle.buffer.proofs.Laws.{sets-sets, drop-step}
 use Rattle.frames.specs.Checksum.{endOf, closed}
-use Rattle.settings.specs.Limits.{standard, widthOf, longestLine, longest-is}
+use Rattle.settings.specs.Limits.{standard, widthOf, longestLine}
+use Rattle.settings.proofs.Laws.{longest-is}
 use Rattle.settings.specs.Settings.{Held}
 use Rattle.readings.specs.Reading.{valueText}
 use Rattle.readings.specs.declared.Readings.{Readings}
 use Rattle.readings.proofs.Laws.{shown, value-le, value-some, value-clean}
-use Rattle.line.specs.Line.{valueOf, valuesOf, tailOf, joined, lineAnswer}
+use Rattle.line.specs.Line.{lineValue, valuesOf, tailOf, joined, lineAnswer}
 use Rattle.line.specs.Rows.{noRow, rowOf, rowsOf, rowText, tailRows, lineOf}
 
 -- ---- stores
@@ -147,8 +148,8 @@ length-end body = simp length-append (omega arith)
 -- ---- the values of a line
 
 -- source 0 has at most 10 characters
-front-le : (r : Readings) → length (valueOf r 0) ≤ 10
-unfolding valueOf widthOf pick
+front-le : (r : Readings) → length (lineValue r 0) ≤ 10
+unfolding lineValue widthOf pick
 front-le r = simp length-take (omega arith)
 
 width-some : (c : ℕ) → 1 ≤ widthOf c
@@ -156,8 +157,8 @@ unfolding widthOf
 width-some c = each (λ (n : ℕ). 1 ≤ n) (eqb c 7) 11 (pick (leb 8 c) 6 10) (λ _. omega arith) (λ _. each (λ (n : ℕ). 1 ≤ n) (leb 8 c) 6 10 (λ _. omega arith) (λ _. omega arith))
 
 -- none is empty, or has a zero or more characters than a row holds
-value-fits : (r : Readings) (c : ℕ) → Fits (valueOf r c)
-unfolding valueOf shown within
+value-fits : (r : Readings) (c : ℕ) → Fits (lineValue r c)
+unfolding lineValue shown within
 value-fits r c =
     record {
       le = simp length-take (omega (arith, value-le c r));
@@ -168,13 +169,13 @@ value-fits r c =
 -- the line of the values' rows is the values' line
 pub line-is : (list : List ℕ) (r : Readings) → length list ≤ 7 → lineOf (rowsOf (valuesOf list r)) ≡ closed (joined (valuesOf list r))
 unfolding valuesOf
-line-is list r h = line-rows (valueOf r) (value-fits r) list h
+line-is list r h = line-rows (lineValue r) (value-fits r) list h
 
 -- 10 characters, at most seven times 12 with each `;`, and the end
 pub line-le : (list : List ℕ) (r : Readings) → length list ≤ 7 → length (closed (joined (valuesOf list r))) ≤ 96
 unfolding valuesOf joined
 line-le list r h =
-    rw length-end (simp length-append (omega (arith, front-le r, tail-le (valueOf r) (value-fits r) list)))
+    rw length-end (simp length-append (omega (arith, front-le r, tail-le (lineValue r) (value-fits r) list)))
 
 -- ---- what is answered, by its tests
 

@@ -1,4 +1,4 @@
--- The stream line. Assumes nothing.
+-- The stream line.
 use mathlib.Core.Bool.{not}
 use mathlib.Core.List.{List, [], _∷_, _++_, map}
 use Prim.Native.Nat.{ℕ}
@@ -14,12 +14,12 @@ use Rattle.readings.specs.declared.Readings.{Readings}
 
 -- the value of a source. None is wider than its source's width in a state that calls reach (source 0 is never negative); in another state
 -- it is cut there, so that no line is longer than 96 bytes.
-unfoldable pub valueOf : Readings → ℕ → List ℕ
-valueOf r code = take (widthOf code) (valueText code r)
+unfoldable pub lineValue : Readings → ℕ → List ℕ
+lineValue r code = take (widthOf code) (valueText code r)
 
 -- "The line is source 0, then the list in order"
 unfoldable pub valuesOf : List ℕ → Readings → List (List ℕ)
-valuesOf list r = map (valueOf r) (0 ∷ list)
+valuesOf list r = map (lineValue r) (0 ∷ list)
 
 -- each text after a `;`
 unfoldable pub tailOf : List (List ℕ) → List ℕ

@@ -1,5 +1,5 @@
 -- "Its places are handed over as eight rows of eleven characters, by value." A row's text ends at its first zero; the first empty row after
--- the first row ends the line. No public contract cites this file. Assumes nothing.
+-- the first row ends the line. No public contract cites this file.
 use mathlib.Core.Bool.{cond}
 use mathlib.Core.List.{List, [], _∷_, _++_, map}
 use Prim.Native.Nat.{ℕ}

@@ -1,6 +1,6 @@
--- Laws of the digits of long decimals. Assumes nothing.
+-- Laws of the digits of long decimals.
 use mathlib.Core.Path.{_≡_, refl, sym, ap, _∙_}
-use mathlib.Core.Bool.{Bool, true, false, not}
+use mathlib.Core.Bool.{Bool, true, false}
 use mathlib.Core.List.{List, [], _∷_, _++_}
 use Prim.Native.Nat.{ℕ, zero, suc, _+_, _-_, _*_, _<_, _≤_, min}
 use native.Mathlib.Omega.{arith}
@@ -8,15 +8,15 @@ use lib.Dec.{ltb, leb, eqb}
 use borrow.Author.Tests.{lt-ltb, le-leb, lt-leb, leb-false, leb-true, eq-eqb, ne-eqb}
 use lib.ListN.{length, getD, take, drop, drop-of-length-le}
 use Rattle.buffer.specs.First.{pick}
-use Rattle.buffer.specs.Byte.{numeralFrom, numeral}
+use Rattle.buffer.specs.Byte.{numeralFrom, numeral, leading}
 use Rattle.buffer.proofs.Laws.{drop-step, ten-max}
 use Rattle.buffer.proofs.Rules.{past, stop, each}
-use Rattle.decimal.specs.Form.{whole, leading, powerOf, exponentOf}
+use Rattle.decimal.specs.Form.{whole, powerOf, exponentOf}
 use Rattle.decimal.specs.declared.Exact.{Exact}
 use Rattle.decimal.specs.declared.Scan.{Scan}
 use Rattle.decimal.specs.declared.Scan.the-variants.{Of, NoForm}
 use Rattle.decimal.proofs.Laws.{numeral-front}
-use Rattle.long_decimal.specs.Long.{significant, valueOf, spelledOf}
+use Rattle.long_decimal.specs.Long.{significant, decimalValue, spelledOf}
 
 -- ---- the digits up to the last that is not `0`
 
@@ -104,11 +104,11 @@ enough n f = go (leb 1000000 n) refl
         let m : min 1000000 n ≡ n = omega arith in
         rw m
 
-pub as-a-million : (negative : Bool) (n up down : ℕ) (e : List ℕ) → valueOf negative (min 1000000 n) up down e ≡ valueOf negative n up down e
-unfolding valueOf pick
+pub as-a-million : (negative : Bool) (n up down : ℕ) (e : List ℕ) → decimalValue negative (min 1000000 n) up down e ≡ decimalValue negative n up down e
+unfolding decimalValue pick
 as-a-million negative n up down e = go (leb 1000000 n) refl
   where
-    go : (t : Bool) → leb 1000000 n ≡ t → valueOf negative (min 1000000 n) up down e ≡ valueOf negative n up down e
+    go : (t : Bool) → leb 1000000 n ≡ t → decimalValue negative (min 1000000 n) up down e ≡ decimalValue negative n up down e
     go true f =
         let h = leb-true 1000000 n f in
         rw (f, le-leb 1000000 (min 1000000 n) (omega arith))
@@ -147,19 +147,19 @@ exponent-small s negative n =
 -- ---- the two ways to spell
 
 pub whole-is : (negative : Bool) (w f e : List ℕ) (m k n : ℕ) → m ≡ significant w → k ≡ significant f → n ≡ min 1000000 (numeral (take m w))
-    → length w < 101 → length f < 101 → k ≡ 0 → valueOf negative n (length w - m) 0 e ≡ spelledOf negative w f e
+    → length w < 101 → length f < 101 → k ≡ 0 → decimalValue negative n (length w - m) 0 e ≡ spelledOf negative w f e
 unfolding spelledOf
 whole-is negative w f e m k n a b c h i z =
     past _ _ _ _ (lt-leb 101 (length w) h) (past _ _ _ _ (lt-leb 101 (length f) i) (stop _ _ _ _ (eq-eqb (significant f) 0 (sym b ∙ z))
-    (ap (λ (x : ℕ). valueOf negative x (length w - m) 0 e) c ∙ as-a-million negative (numeral (take m w)) (length w - m) 0 e
-    ∙ ap (λ (x : ℕ). valueOf negative (numeral (take x w)) (length w - x) 0 e) a)))
+    (ap (λ (x : ℕ). decimalValue negative x (length w - m) 0 e) c ∙ as-a-million negative (numeral (take m w)) (length w - m) 0 e
+    ∙ ap (λ (x : ℕ). decimalValue negative (numeral (take x w)) (length w - x) 0 e) a)))
 
 pub pointed-is : (negative : Bool) (w f e : List ℕ) (k v n : ℕ) → k ≡ significant f → v ≡ min 1000000 (numeral w) → n ≡ min 1000000 (numeralFrom v (take k f))
-    → length w < 101 → length f < 101 → (k ≡ 0 → ⊥) → valueOf negative n 0 k e ≡ spelledOf negative w f e
+    → length w < 101 → length f < 101 → (k ≡ 0 → ⊥) → decimalValue negative n 0 k e ≡ spelledOf negative w f e
 unfolding spelledOf
 pointed-is negative w f e k v n a b c h i z =
     past _ _ _ _ (lt-leb 101 (length w) h) (past _ _ _ _ (lt-leb 101 (length f) i) (past _ _ _ _ (ne-eqb (significant f) 0 (λ (y : significant f ≡ 0). z (a ∙ y)))
-    (ap (λ (x : ℕ). valueOf negative x 0 k e) (c ∙ ap (λ (x : ℕ). min 1000000 (numeralFrom x (take k f))) b ∙ enough (numeral w) (take k f))
+    (ap (λ (x : ℕ). decimalValue negative x 0 k e) (c ∙ ap (λ (x : ℕ). min 1000000 (numeralFrom x (take k f))) b ∙ enough (numeral w) (take k f))
     ∙ as-a-million negative (numeralFrom (numeral w) (take k f)) 0 k e
-    ∙ ap (λ (x : ℕ). valueOf negative x 0 k e) (sym (spells-on w (take k f) 0))
-    ∙ ap (λ (x : ℕ). valueOf negative (numeral (w ++ take x f)) 0 x e) a)))
+    ∙ ap (λ (x : ℕ). decimalValue negative x 0 k e) (sym (spells-on w (take k f) 0))
+    ∙ ap (λ (x : ℕ). decimalValue negative (numeral (w ++ take x f)) 0 x e) a)))

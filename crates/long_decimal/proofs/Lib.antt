@@ -1,2 +1,3 @@
 -- Laws of long decimals.
 pub mod Laws
+pub mod Open

@@ -1,13 +1,13 @@
 -- Decimals as people write them: document 01's form ("Decimal numbers") without its limit of six digits before the exponent, by their value. A value that
--- needs over six digits is none, and so is one of over 100 digits before or after the point. Assumes nothing.
+-- needs over six digits is none, and so is one of over 100 digits before or after the point.
 use mathlib.Core.Bool.{Bool, true, false}
 use mathlib.Core.List.{List, [], _∷_, _++_}
 use Prim.Native.Nat.{ℕ, _+_, _-_}
 use lib.Dec.{ltb, leb, eqb}
 use lib.ListN.{length, take, drop}
 use Rattle.buffer.specs.First.{_⇒_, first}
-use Rattle.buffer.specs.Byte.{numeral}
-use Rattle.decimal.specs.Form.{whole, leading, startsWith, exponentOf}
+use Rattle.buffer.specs.Byte.{numeral, leading, startsWith}
+use Rattle.decimal.specs.Form.{whole, exponentOf}
 use Rattle.decimal.specs.declared.Scan.{Scan}
 use Rattle.decimal.specs.declared.Scan.the-variants.{Of, NoForm}
 
@@ -22,8 +22,8 @@ movedOf up down (Of x) = Of (record { negative = x .negative; digits = x .digits
 movedOf up down NoForm = NoForm
 
 -- n * 10 ^ up / 10 ^ down, times the power that the text e says; e is what follows the digits, nothing or an exponent
-unfoldable pub valueOf : Bool → ℕ → ℕ → ℕ → List ℕ → Scan
-valueOf negative n up down e = first (leb 1000000 n ⇒ NoForm ∷ []) (movedOf up down (exponentOf e (whole negative n)))
+unfoldable pub decimalValue : Bool → ℕ → ℕ → ℕ → List ℕ → Scan
+decimalValue negative n up down e = first (leb 1000000 n ⇒ NoForm ∷ []) (movedOf up down (exponentOf e (whole negative n)))
 
 -- the digits w before the point and f after it: zeros at the end are not among those that count
 unfoldable pub spelledOf : Bool → List ℕ → List ℕ → List ℕ → Scan
@@ -33,9 +33,9 @@ spelledOf negative w f e =
     first
     (leb 101 (length w) ⇒ NoForm
     ∷ leb 101 (length f) ⇒ NoForm
-    ∷ eqb k 0 ⇒ valueOf negative (numeral (take m w)) (length w - m) 0 e
+    ∷ eqb k 0 ⇒ decimalValue negative (numeral (take m w)) (length w - m) 0 e
     ∷ [])
-    (valueOf negative (numeral (w ++ take k f)) 0 k e)
+    (decimalValue negative (numeral (w ++ take k f)) 0 k e)
 
 -- after the point: "digits"
 unfoldable pub pointedOf : Bool → List ℕ → List ℕ → Scan

@@ -2,7 +2,7 @@
 ghost use mathlib.Core.Path.{_≡_};
 ghost use Prim.Native.Nat.{_≤_, min};
 ghost use Rattle.buffer.specs.Byte.{numeralFrom};
-ghost use Rattle.long_decimal.specs.Long.{significant, valueOf, spelledOf, pointedOf, unsignedOf, decimalOf};
+ghost use Rattle.long_decimal.specs.Long.{significant, decimalValue, spelledOf, pointedOf, unsignedOf, decimalOf};
 use decimal::Exact;
 use decimal::Scan;
 
@@ -44,7 +44,7 @@ fn spell_after(v: u32, s: &[u8]) -> u32
 // A number, moved up and down by powers of ten, with what follows its digits.
 fn value_of(negative: bool, n: u32, up: u8, down: u8, e: &[u8]) -> Scan
     requires { ⌜ (up ≤ 100) × (down ≤ 100) ⌝ }
-    ensures { λ r. ⌜ r ≡ valueOf negative n up down (now (e .entry)) ⌝ }
+    ensures { λ r. ⌜ r ≡ decimalValue negative n up down (now (e .entry)) ⌝ }
 {
     if 1000000 <= n {
         return Scan::NoForm;
@@ -84,7 +84,7 @@ fn spell(negative: bool, w: &[u8], f: &[u8], e: &[u8]) -> Scan
 fn pointed(negative: bool, w: &[u8], s: &[u8]) -> Scan
     ensures { λ r. ⌜ r ≡ pointedOf negative (now (w .entry)) (now (s .entry)) ⌝ }
 {
-    let k = decimal::count_digits(s);
+    let k = buffer::count_digits(s);
     if k < 1 {
         return Scan::NoForm;
     }
@@ -94,12 +94,12 @@ fn pointed(negative: bool, w: &[u8], s: &[u8]) -> Scan
 fn unsigned(negative: bool, s: &[u8]) -> Scan
     ensures { λ r. ⌜ r ≡ unsignedOf negative (now (s .entry)) ⌝ }
 {
-    let n = decimal::count_digits(s);
+    let n = buffer::count_digits(s);
     if n < 1 {
         return Scan::NoForm;
     }
     let t = buffer::rest(s, n);
-    if decimal::starts_with(t, b'.') {
+    if buffer::starts_with(t, b'.') {
         return pointed(negative, &s[..n], buffer::rest(t, 1));
     }
     spell(negative, &s[..n], &s[..0], t)
@@ -109,7 +109,7 @@ fn unsigned(negative: bool, s: &[u8]) -> Scan
 pub fn read_decimal(s: &[u8]) -> Scan
     ensures { λ r. ⌜ r ≡ decimalOf (now (s .entry)) ⌝ }
 {
-    if decimal::starts_with(s, b'-') {
+    if buffer::starts_with(s, b'-') {
         return unsigned(true, buffer::rest(s, 1));
     }
     unsigned(false, s)

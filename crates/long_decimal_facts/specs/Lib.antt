@@ -1,2 +1,3 @@
 -- What is read of a decimal of document 01's form is its value.
-pub mod Agrees
+pub mod Value
+pub mod Theorems

@@ -1,4 +1,4 @@
--- Laws of the gauge's replies. Assumes nothing.
+-- Laws of the gauge's replies.
 use mathlib.Core.Path.{_≡_, refl}
 use mathlib.Core.Bool.{Bool, true, false}
 use mathlib.Core.List.{List, [], _∷_}
@@ -13,8 +13,8 @@ use Rattle.opg_frame_writer.proofs.Laws.{length-frame, fits}
 use Rattle.opg_commands.specs.Request.{replyCount}
 use Rattle.opg_commands.specs.declared.Request.{Request}
 use Rattle.opg_commands.specs.declared.Request.the-variants.{ReadPressure, ReadUnit, WriteUnit, DetectionOff, DetectionOn}
-use Rattle.opg_requests.specs.declared.Asked.{Asked}
-use Rattle.opg_requests.specs.declared.Asked.the-variants.{Silent, Error, Accepted}
+use Rattle.opg_request_reader.specs.declared.Asked.{Asked}
+use Rattle.opg_request_reader.specs.declared.Asked.the-variants.{Silent, Error, Accepted}
 use Rattle.opg_gauge.specs.Judged.{judgement}
 use Rattle.opg_gauge.specs.declared.Gauge.{Gauge}
 use Rattle.opg_answer.specs.Reply.{replyData, replyTo, answerOf}

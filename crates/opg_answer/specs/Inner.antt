@@ -1,4 +1,4 @@
--- What the functions inside this crate promise each other. Assumes nothing.
+-- What the functions inside this crate promise each other.
 use mathlib.Core.List.{List, [], _∷_}
 use Prim.Native.Nat.{ℕ, _+_}
 use Rattle.buffer.specs.Answer.{Answer, silent}
@@ -6,8 +6,8 @@ use Rattle.opg_frame_writer.specs.Written.{written, replyFrame}
 use Rattle.opg_commands.specs.Request.{requestPid, replyCmd}
 use Rattle.opg_commands.specs.declared.Request.{Request}
 use Rattle.opg_commands.specs.declared.Request.the-variants.{ReadPressure, ReadUnit, WriteUnit, DetectionOff, DetectionOn}
-use Rattle.opg_requests.specs.declared.Asked.{Asked}
-use Rattle.opg_requests.specs.declared.Asked.the-variants.{Silent, Error, Accepted}
+use Rattle.opg_request_reader.specs.declared.Asked.{Asked}
+use Rattle.opg_request_reader.specs.declared.Asked.the-variants.{Silent, Error, Accepted}
 use Rattle.opg_answer.specs.Reply.{replyData, errorCmd}
 use Rattle.opg_gauge.specs.declared.Gauge.{Gauge}
 

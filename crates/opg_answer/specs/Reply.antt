@@ -1,4 +1,4 @@
--- Document 01, "OPG frames": the gauge's answer to any bytes, with any memory lent. Assumes nothing.
+-- Document 01, "OPG frames": the gauge's answer to any bytes, with any memory lent.
 use mathlib.Core.List.{List, [], _∷_}
 use Prim.Native.Nat.{ℕ, _+_}
 use lib.Dec.{eqb}
@@ -10,8 +10,8 @@ use Rattle.opg_units.specs.Units.{bitsIn}
 use Rattle.opg_commands.specs.Request.{quad, requestPid, replyCmd}
 use Rattle.opg_commands.specs.declared.Request.{Request}
 use Rattle.opg_commands.specs.declared.Request.the-variants.{ReadPressure, ReadUnit, WriteUnit, DetectionOff, DetectionOn}
-use Rattle.opg_requests.specs.declared.Asked.{Asked}
-use Rattle.opg_requests.specs.declared.Asked.the-variants.{Silent, Error, Accepted}
+use Rattle.opg_request_reader.specs.declared.Asked.{Asked}
+use Rattle.opg_request_reader.specs.declared.Asked.the-variants.{Silent, Error, Accepted}
 use Rattle.opg_gauge.specs.Judged.{judgement, after}
 use Rattle.opg_gauge.specs.declared.Gauge.{Gauge}
 use Rattle.opg_gauge.specs.declared.Pressure.{Pressure}

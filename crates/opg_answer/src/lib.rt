@@ -7,7 +7,7 @@ ghost use Rattle.opg_answer.specs.Inner.{replyBytes, sentError, sentRepl
 use opg_commands::Request;
 use opg_gauge::Gauge;
 use opg_gauge::Pressure;
-use opg_requests::Asked;
+use opg_request_reader::Asked;
 
 // A gauge after a call, and the call's answer.
 pub struct Answered {

@@ -1,4 +1,4 @@
--- The limits of the OPG's settings, each named once. Assumes nothing.
+-- The limits of the OPG's settings, each named once.
 use Prim.Native.Nat.{ℕ}
 
 -- the unit: 1 mbar, 2 Torr, 3 Pascal, 4 micron

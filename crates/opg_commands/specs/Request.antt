@@ -1,19 +1,13 @@
--- Document 01, "OPG frames": the typed requests, one case for each PID and access. Assumes nothing.
+-- Document 01, "OPG frames": the typed requests, one case for each PID and access.
 use mathlib.Core.Bool.{Bool, false, not}
 use mathlib.Core.List.{List, [], _∷_}
-use Prim.Native.Nat.{ℕ, _+_, _*_, _/_, _%_}
-use Rattle.buffer.specs.Byte.{at, within}
+use Prim.Native.Nat.{ℕ, _+_, _/_, _%_}
+use Rattle.buffer.specs.Byte.{within}
 use Rattle.opg_commands.specs.Limits.{unitLow, unitHigh, gasHigh}
 use Rattle.opg_commands.specs.declared.Request.{Request}
 use Rattle.opg_commands.specs.declared.Request.the-variants.{ReadPressure, ReadUnit, WriteUnit, DetectionOff, DetectionOn}
 
--- four bytes as one number, high byte first, and back
-abbrev pub word : ℕ → ℕ → ℕ → ℕ → ℕ
-word a b c d = a * 16777216 + b * 65536 + c * 256 + d
-
-abbrev pub wordAt : List ℕ → ℕ → ℕ
-wordAt s i = word (at s i) (at s (i + 1)) (at s (i + 2)) (at s (i + 3))
-
+-- a number as four bytes, high byte first
 abbrev pub quad : ℕ → List ℕ
 quad n = n / 16777216 % 256 ∷ n / 65536 % 256 ∷ n / 256 % 256 ∷ n % 256 ∷ []
 

@@ -1,4 +1,4 @@
--- Document 01, "OPG frames": the settings, their factory values, and what a request changes. Assumes nothing.
+-- Document 01, "OPG frames": the settings, their factory values, and what a request changes.
 use Rattle.opg_commands.specs.declared.Request.{Request}
 use Rattle.opg_commands.specs.declared.Request.the-variants.{ReadPressure, ReadUnit, WriteUnit, DetectionOff, DetectionOn}
 use Rattle.opg_commands.specs.declared.Settings.{Settings}

@@ -1,4 +1,4 @@
--- Eight steps at once: for the low eight digits the rule is a test at each of their 256 values, which is computed. Assumes nothing.
+-- Eight steps at once: for the low eight digits the rule is a test at each of their 256 values, which is computed.
 use mathlib.Core.Path.{_≡_, sym, ap, ap₂, subst, _∙_}
 use mathlib.Core.Bool.{Bool, true, false, cond}
 use mathlib.Core.Logic.{inl, inr}
@@ -38,9 +38,10 @@ every f (suc n) = both (f n) (every f n)
 passes : (f : ℕ → Bool) (n : ℕ) → T (every f n) → (k : ℕ) → k < n → T (f k)
 passes f zero t k h = absurd (not-suc-le-zero h)
 passes f (suc n) t k h =
-    elim (eq-or-lt-of-le (le-of-suc-le-suc h))
-    [ inl e ↦ subst (λ (m : ℕ). T (f m)) (sym e) (both-left (f n) (every f n) t)
-    | inr l ↦ passes f n (both-right (f n) (every f n) t) k l ]
+    elim (eq-or-lt-of-le (le-of-suc-le-suc h)) [
+      | inl e ↦ subst (λ (m : ℕ). T (f m)) (sym e) (both-left (f n) (every f n) t)
+      | inr l ↦ passes f n (both-right (f n) (every f n) t) k l
+    ]
 
 -- ---- the rule
 
@@ -62,6 +63,7 @@ low-alone x =
   where
     same : x % 2 ^ 8 ≡ x % 256 % 2 ^ 8
     same = omega arith
+
     times : x * 16 % 2 ^ 8 ≡ x % 256 * 16 % 2 ^ 8
     times = omega arith
 

@@ -1,4 +1,4 @@
--- The division of polynomials, a byte at a time. Assumes nothing.
+-- The division of polynomials, a byte at a time.
 use mathlib.Core.Path.{_≡_, refl, sym, ap, ap₂, _∙_}
 use mathlib.Core.Bool.{Bool, true, false, cond, xor}
 use mathlib.Core.List.{List, [], _∷_, _++_, append-assoc}

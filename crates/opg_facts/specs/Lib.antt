@@ -1,7 +1,5 @@
--- What follows from the definitions of the OPG.
-pub mod ReadBack
+-- What follows from the definitions of the OPG. Accepted, Held and Examples say what the words of the statements mean.
 pub mod Accepted
-pub mod Lengths
-pub mod Finite
-pub mod Answered
+pub mod Held
 pub mod Examples
+pub mod Theorems

@@ -1,4 +1,4 @@
--- Laws of frames that are written. Assumes nothing.
+-- Laws of frames that are written.
 use mathlib.Core.Path.{_≡_, sym, _∙_}
 use mathlib.Core.List.{List}
 use Prim.Native.Nat.{ℕ, _+_, _<_, _≤_}

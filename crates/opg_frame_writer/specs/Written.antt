@@ -1,4 +1,4 @@
--- Document 01, "OPG frames": the bytes of a frame, and the answer of a frame's writer. Assumes nothing.
+-- Document 01, "OPG frames": the bytes of a frame, and the answer of a frame's writer.
 use mathlib.Core.List.{List, [], _∷_, _++_}
 use Prim.Native.Nat.{ℕ, _+_, _/_, _%_}
 use lib.Dec.{ltb}

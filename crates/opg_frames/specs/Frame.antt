@@ -1,4 +1,4 @@
--- Document 01, "OPG frames": the parts of any bytes as a frame, and each part's tests. Assumes nothing.
+-- Document 01, "OPG frames": the parts of any bytes as a frame, and each part's tests.
 use mathlib.Core.Bool.{Bool, not, _||_}
 use mathlib.Core.List.{List, [], _∷_}
 use Prim.Native.Nat.{ℕ, _+_, _-_, _*_, _/_, _%_}

@@ -1,34 +1,23 @@
 // OPG frames (document 01, "OPG frames"): the parts of any bytes as a frame.
 ghost use mathlib.Core.Path.{_≡_};
-ghost use Rattle.buffer.specs.Byte.{at};
 ghost use Rattle.opg_frames.specs.Frame.{lenOf, cmdOf, pidOf, countOf, misshapen, foreign, wrongCrc, wrongVersion, acknowledges, indexed};
-
-// The byte at place i, and 0 past the end.
-pub fn byte_at(s: &[u8], i: usize) -> u8
-    ensures { λ r. ⌜ r ≡ at (now (s .entry)) i ⌝ }
-{
-    if s.len() <= i {
-        return 0;
-    }
-    s[i]
-}
 
 fn len_of(s: &[u8]) -> u16
     ensures { λ r. ⌜ r ≡ lenOf (now (s .entry)) ⌝ }
 {
-    (byte_at(s, 3) as u16) * 256 + (byte_at(s, 4) as u16)
+    (buffer::byte_at(s, 3) as u16) * 256 + (buffer::byte_at(s, 4) as u16)
 }
 
 pub fn cmd_of(s: &[u8]) -> u8
     ensures { λ r. ⌜ r ≡ cmdOf (now (s .entry)) ⌝ }
 {
-    byte_at(s, 5)
+    buffer::byte_at(s, 5)
 }
 
 pub fn pid_of(s: &[u8]) -> u16
     ensures { λ r. ⌜ r ≡ pidOf (now (s .entry)) ⌝ }
 {
-    (byte_at(s, 6) as u16) * 256 + (byte_at(s, 7) as u16)
+    (buffer::byte_at(s, 6) as u16) * 256 + (buffer::byte_at(s, 7) as u16)
 }
 
 // How many data bytes a frame has.
@@ -53,17 +42,17 @@ pub fn is_misshapen(s: &[u8]) -> bool
     if s.len() != len + 7 {
         return true;
     }
-    byte_at(s, 2) / 2 % 8 != 0
+    buffer::byte_at(s, 2) / 2 % 8 != 0
 }
 
 // Whether ADDR is not 0, or ID is not the one given.
 pub fn is_foreign(s: &[u8], id: u8) -> bool
     ensures { λ r. ⌜ r ≡ foreign id (now (s .entry)) ⌝ }
 {
-    if byte_at(s, 0) != 0 {
+    if buffer::byte_at(s, 0) != 0 {
         return true;
     }
-    byte_at(s, 1) != id
+    buffer::byte_at(s, 1) != id
 }
 
 pub fn has_wrong_crc(s: &[u8]) -> bool
@@ -81,18 +70,18 @@ pub fn has_wrong_crc(s: &[u8]) -> bool
 pub fn has_wrong_version(s: &[u8]) -> bool
     ensures { λ r. ⌜ r ≡ wrongVersion (now (s .entry)) ⌝ }
 {
-    byte_at(s, 2) / 16 != 2
+    buffer::byte_at(s, 2) / 16 != 2
 }
 
 pub fn is_acknowledge(s: &[u8]) -> bool
     ensures { λ r. ⌜ r ≡ acknowledges (now (s .entry)) ⌝ }
 {
-    byte_at(s, 2) % 2 == 1
+    buffer::byte_at(s, 2) % 2 == 1
 }
 
 // Whether IDX is not 0.
 pub fn is_indexed(s: &[u8]) -> bool
     ensures { λ r. ⌜ r ≡ indexed (now (s .entry)) ⌝ }
 {
-    (byte_at(s, 8) as u16) * 256 + (byte_at(s, 9) as u16) != 0
+    (buffer::byte_at(s, 8) as u16) * 256 + (buffer::byte_at(s, 9) as u16) != 0
 }

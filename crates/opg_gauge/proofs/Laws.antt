@@ -1,4 +1,4 @@
--- Laws of what a request asks of the gauge. Assumes nothing.
+-- Laws of what a request asks of the gauge.
 use mathlib.Core.Path.{_≡_, refl}
 use mathlib.Core.Bool.{Bool, true, false}
 use mathlib.Core.List.{List, [], _∷_, _++_}
@@ -7,10 +7,10 @@ use borrow.Author.Tests.{le-ltb}
 use types.Run.{OneOf, miss}
 use denote.Enum.Declared.{tagOf}
 use Rattle.buffer.specs.First.{Row, _⇒_, first, pick}
-use Rattle.opg_requests.specs.Asked.{refusals, meaning, askedOf}
-use Rattle.opg_requests.specs.declared.Asked.{Asked}
-use Rattle.opg_requests.specs.declared.Asked.the-variants.{Silent, Error, Accepted}
-use Rattle.opg_requests.proofs.Asked.{the-type}
+use Rattle.opg_request_reader.specs.Asked.{refusals, meaning, askedOf}
+use Rattle.opg_request_reader.specs.declared.Asked.{Asked}
+use Rattle.opg_request_reader.specs.declared.Asked.the-variants.{Silent, Error, Accepted}
+use Rattle.opg_request_reader.proofs.Asked.{the-type}
 use Rattle.opg_gauge.specs.Judged.{unavailable, judgement, after}
 use Rattle.opg_gauge.specs.Inner.{judged}
 use Rattle.opg_gauge.specs.declared.Gauge.{Gauge}

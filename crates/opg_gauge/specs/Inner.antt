@@ -1,7 +1,7 @@
--- What the functions inside this crate promise each other. Assumes nothing.
+-- What the functions inside this crate promise each other.
 use Rattle.buffer.specs.First.{pick}
-use Rattle.opg_requests.specs.declared.Asked.{Asked}
-use Rattle.opg_requests.specs.declared.Asked.the-variants.{Silent, Error, Accepted}
+use Rattle.opg_request_reader.specs.declared.Asked.{Asked}
+use Rattle.opg_request_reader.specs.declared.Asked.the-variants.{Silent, Error, Accepted}
 use Rattle.opg_gauge.specs.Judged.{unavailable}
 use Rattle.opg_gauge.specs.declared.Gauge.{Gauge}
 

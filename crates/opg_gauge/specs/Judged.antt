@@ -1,15 +1,15 @@
--- Document 01, "OPG frames": what any bytes ask of the gauge, by the first rule that applies, and what they change. Assumes nothing.
+-- Document 01, "OPG frames": what any bytes ask of the gauge, by the first rule that applies, and what they change.
 use mathlib.Core.Bool.{Bool, true, false, _&&_}
 use mathlib.Core.List.{List, [], _∷_, _++_}
 use Prim.Native.Nat.{ℕ}
 use lib.Dec.{ltb}
 use Rattle.buffer.specs.First.{_⇒_, first}
 use Rattle.opg_commands.specs.Settings.{entered}
-use Rattle.opg_requests.specs.Asked.{refusals, meaning}
+use Rattle.opg_request_reader.specs.Asked.{refusals, meaning}
 use Rattle.opg_commands.specs.declared.Request.{Request}
 use Rattle.opg_commands.specs.declared.Request.the-variants.{ReadPressure, ReadUnit, WriteUnit, DetectionOff, DetectionOn}
-use Rattle.opg_requests.specs.declared.Asked.{Asked}
-use Rattle.opg_requests.specs.declared.Asked.the-variants.{Silent, Error, Accepted}
+use Rattle.opg_request_reader.specs.declared.Asked.{Asked}
+use Rattle.opg_request_reader.specs.declared.Asked.the-variants.{Silent, Error, Accepted}
 use Rattle.opg_gauge.specs.State.{isUnavailable}
 use Rattle.opg_gauge.specs.declared.Gauge.{Gauge}
 

@@ -6,7 +6,7 @@ ghost use Rattle.opg_gauge.specs.Judged.{isPressureRead, judgement, afte
 ghost use Rattle.opg_gauge.specs.Inner.{judged};
 use opg_commands::Request;
 use opg_commands::Settings;
-use opg_requests::Asked;
+use opg_request_reader::Asked;
 
 // The pressure: the 32 bits of an f32 in mbar, or unavailable.
 pub enum Pressure {
@@ -21,7 +21,7 @@ pub struct Gauge {
 }
 
 // A gauge after a bench setting, and the setting's number.
-pub struct Benched {
+pub struct BenchAnswer {
     pub gauge: Gauge,
     pub number: u16,
 }
@@ -68,18 +68,18 @@ impl Gauge {
         }
     }
 
-    // The bench sets the pressure.
-    pub fn bench(self, p: Pressure) -> Benched
+    // The bench, document 01's term for what sets the readings from outside, sets the pressure.
+    pub fn bench(self, p: Pressure) -> BenchAnswer
         ensures { λ r. ⌜ r ≡ benched self p ⌝ }
     {
         if !is_taken(p) {
-            return Benched {
+            return BenchAnswer {
                 gauge: self,
                 number: 15,
             };
         }
         let settings = self.settings;
-        Benched {
+        BenchAnswer {
             gauge: Gauge {
                 settings,
                 pressure: p,
@@ -112,7 +112,7 @@ impl Gauge {
         if room < 32 {
             return Asked::Silent(21);
         }
-        self.held(opg_requests::read_request(s))
+        self.held(opg_request_reader::read_request(s))
     }
 
     // The gauge after a request.

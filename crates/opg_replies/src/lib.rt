@@ -1,7 +1,7 @@
 // Replies of an OPG as the master reads them (document 01, "The master's side").
 ghost use mathlib.Core.Path.{_≡_};
-ghost use Rattle.opg_commands.specs.Request.{wordAt};
-ghost use Rattle.opg_replies.specs.Reply.{isError, otherReply, neededOf, wrongCount, valueOf, readingOf};
+ghost use Rattle.buffer.specs.Byte.{wordAt};
+ghost use Rattle.opg_replies.specs.Reply.{isError, otherReply, neededOf, wrongCount, replyValue, readOf};
 use opg_commands::Request;
 use opg_commands::Settings;
 
@@ -14,7 +14,7 @@ pub enum Reply {
 }
 
 // Bytes as the reply to a request: refused with this number, or a reply.
-pub enum Reading {
+pub enum ReadOpg {
     Refused(u8),
     Read(Reply),
 }
@@ -61,64 +61,66 @@ fn has_wrong_count(r: Request, s: &[u8]) -> bool
 fn word(s: &[u8]) -> u32
     ensures { λ r. ⌜ r ≡ wordAt (now (s .entry)) 10 ⌝ }
 {
-    (opg_frames::byte_at(s, 10) as u32) * 16777216
-        + (opg_frames::byte_at(s, 11) as u32) * 65536
-        + (opg_frames::byte_at(s, 12) as u32) * 256
-        + (opg_frames::byte_at(s, 13) as u32)
+    buffer::word(
+        buffer::byte_at(s, 10),
+        buffer::byte_at(s, 11),
+        buffer::byte_at(s, 12),
+        buffer::byte_at(s, 13),
+    )
 }
 
 // The value that answers a request.
-fn read_value(r: Request, s: &[u8]) -> Reading
-    ensures { λ a. ⌜ a ≡ valueOf r (now (s .entry)) ⌝ }
+fn read_value(r: Request, s: &[u8]) -> ReadOpg
+    ensures { λ a. ⌜ a ≡ replyValue r (now (s .entry)) ⌝ }
 {
     match r {
         Request::ReadPressure(_) => {
             let w = word(s);
             if !opg_units::is_finite(w) {
-                return Reading::Refused(28);
+                return ReadOpg::Refused(28);
             }
-            Reading::Read(Reply::Pressure(f32::from_bits(w)))
+            ReadOpg::Read(Reply::Pressure(f32::from_bits(w)))
         }
         Request::ReadUnit => {
-            let u = opg_frames::byte_at(s, 10);
+            let u = buffer::byte_at(s, 10);
             if !buffer::is_within(u, Settings::UNIT_MIN, Settings::UNIT_MAX) {
-                return Reading::Refused(28);
+                return ReadOpg::Refused(28);
             }
-            Reading::Read(Reply::Unit(u))
+            ReadOpg::Read(Reply::Unit(u))
         }
-        Request::WriteUnit(_) => Reading::Read(Reply::Done),
-        Request::DetectionOff => Reading::Read(Reply::Done),
-        Request::DetectionOn(_, _) => Reading::Read(Reply::Done),
+        Request::WriteUnit(_) => ReadOpg::Read(Reply::Done),
+        Request::DetectionOff => ReadOpg::Read(Reply::Done),
+        Request::DetectionOn(_, _) => ReadOpg::Read(Reply::Done),
     }
 }
 
 // Any bytes as the reply to a request, or the first refusal that applies.
-pub fn read_reply(r: Request, s: &[u8]) -> Reading
-    ensures { λ a. ⌜ a ≡ readingOf r (now (s .entry)) ⌝ }
+pub fn read_reply(r: Request, s: &[u8]) -> ReadOpg
+    ensures { λ a. ⌜ a ≡ readOf r (now (s .entry)) ⌝ }
 {
     if opg_frames::is_misshapen(s) {
-        return Reading::Refused(22);
+        return ReadOpg::Refused(22);
     }
     if opg_frames::is_foreign(s, 0x0b) {
-        return Reading::Refused(23);
+        return ReadOpg::Refused(23);
     }
     if opg_frames::has_wrong_crc(s) {
-        return Reading::Refused(24);
+        return ReadOpg::Refused(24);
     }
     if opg_frames::has_wrong_version(s) {
-        return Reading::Refused(25);
+        return ReadOpg::Refused(25);
     }
     if !opg_frames::is_acknowledge(s) {
-        return Reading::Refused(25);
+        return ReadOpg::Refused(25);
     }
     if is_other_reply(r, s) {
-        return Reading::Refused(26);
+        return ReadOpg::Refused(26);
     }
     if has_wrong_count(r, s) {
-        return Reading::Refused(27);
+        return ReadOpg::Refused(27);
     }
     if is_error(s) {
-        return Reading::Read(Reply::Error(opg_frames::byte_at(s, 10)));
+        return ReadOpg::Read(Reply::Error(buffer::byte_at(s, 10)));
     }
     read_value(r, s)
 }

@@ -1,4 +1,4 @@
--- The kind of a reply of an OPG, and its place among the cases. Assumes nothing.
+-- The kind of a reply of an OPG, and its place among the cases.
 use mathlib.Core.Path.{_≡_, refl}
 use mathlib.Core.Bool.{false, not}
 use mathlib.Core.List.{List}
@@ -12,11 +12,11 @@ use denote.Enum.Declared.{tagOf}
 use Rattle.opg_replies.specs.declared.Reply.{Reply}
 use Rattle.opg_replies.specs.declared.Reply.the-variants.{Pressure, Unit, Done, Error}
 use Rattle.opg_replies.proofs.Reply.{the-type}
-use Rattle.opg_replies.specs.Reply.{readingShown}
+use Rattle.opg_replies.specs.Reply.{readShown}
 use Rattle.opg_reply_kinds.specs.Kind.{kindOf}
 
 placed : (r : Reply) → kindOf r ≡ tagOf the-type r + 1
-unfolding readingShown
+unfolding readShown
 placed (Pressure p) = refl
 placed (Unit u) = refl
 placed Done = refl

@@ -1,6 +1,5 @@
 -- A step of `Trace` is the generated contract of the function, and nothing else: `Learnt` is what `rattle check` reads off its `ensures`. None
 -- of the three has a `requires`. The proofs are the constructors themselves. a is the arguments, r the result, x the parameters at exit.
--- Assumes nothing.
 use mathlib.Core.List.{[], _∷_}
 use contract.Lifetimes.{Lfts}
 use borrow.Fn.Kinds.{Dens, resT, endedOf}
@@ -12,7 +11,7 @@ use Rattle.opg_gauge.proofs.Gauge.bench.Kinds as bench-kinds
 use Rattle.opg_gauge.proofs.Gauge.bench.Reads as bench-reads
 use Rattle.opg_answer.proofs.answer.Kinds as answer-kinds
 use Rattle.opg_answer.proofs.answer.Reads as answer-reads
-use Rattle.opg_sequence_facts.specs.Sequence.{History, asked, set, Trace, begin, ask, tell}
+use Rattle.opg_sequence_facts.specs.Sequence.{History, asked, benchSet, Trace, begin, ask, setBench}
 
 pub begin-step : (κs : Lfts 0) (a : Dens κs start-kinds.ps) (r : resT start-kinds.r κs .Denot) (x : AtExit (endedOf 0 start-kinds.ps start-kinds.r) κs)
     → start-reads.Learnt κs a r x → Trace [] r
@@ -24,8 +23,8 @@ pub ask-step : {h : History} (κs : Lfts 2) (a : Dens κs answer-kinds.ps) (r : 
 ask-step κs a r x t contract = ask t contract
 
 pub tell-step : {h : History} (κs : Lfts 0) (a : Dens κs bench-kinds.ps) (r : resT bench-kinds.r κs .Denot) (x : AtExit (endedOf 0 bench-kinds.ps bench-kinds.r) κs)
-    → Trace h (a .0) → bench-reads.Learnt κs a r x → Trace (set (a .1 .0) (r .number) ∷ h) (r .gauge)
-tell-step κs a r x t contract = tell t contract
+    → Trace h (a .0) → bench-reads.Learnt κs a r x → Trace (benchSet (a .1 .0) (r .number) ∷ h) (r .gauge)
+tell-step κs a r x t contract = setBench t contract
 
 -- no call asks anything of its caller
 pub begin-free : (κs : Lfts 0) (a : Dens κs start-kinds.ps) → start-reads.Asked κs a

@@ -1,4 +1,4 @@
--- Any sequence of calls of the OPG from factory settings, as it is seen from outside, and the one claim about it. Assumes nothing.
+-- Any sequence of calls of the OPG from factory settings, as it is seen from outside, and the one claim about it.
 use mathlib.Core.Path.{_≡_}
 use mathlib.Core.Bool.{Bool, true, _&&_}
 use mathlib.Core.List.{List, [], _∷_, map}
@@ -15,7 +15,7 @@ use Rattle.opg_commands.specs.Limits.{unitLow, unitHigh, modeHigh, gasHigh}
 use Rattle.opg_commands.specs.Settings.{factory}
 use Rattle.opg_commands.specs.declared.Settings.{Settings}
 use Rattle.opg_gauge.specs.State.{start, takes, benched}
-use Rattle.opg_gauge.specs.declared.Benched.{Benched}
+use Rattle.opg_gauge.specs.declared.BenchAnswer.{BenchAnswer}
 use Rattle.opg_gauge.specs.declared.Gauge.{Gauge}
 use Rattle.opg_gauge.specs.declared.Pressure.{Pressure}
 use Rattle.opg_answer.specs.Reply.{bitsOf, answerOf, afterOf}
@@ -28,7 +28,7 @@ use Rattle.opg_sequence_facts.specs.Model.{Fed, request, bench, Model, h
 -- afterwards; a bench setting and its number
 pub data Exchange : Type 0 where
   asked : (s before : List ℕ) (number len : ℕ) (after : List ℕ) → Exchange
-  set : (p : Pressure) (number : ℕ) → Exchange
+  benchSet : (p : Pressure) (number : ℕ) → Exchange
 
 -- the calls that were made, the latest first
 abbrev pub History : Type 0
@@ -37,7 +37,7 @@ History = List Exchange
 -- what the reference model is fed of a call: no answers
 abbrev pub fed : Exchange → Fed
 fed (asked s before number len after) = request s (length before)
-fed (set p number) = bench p
+fed (benchSet p number) = bench p
 
 abbrev pub model : History → Model
 model h = modelOf (map fed h)
@@ -50,7 +50,7 @@ pub data Trace : History → Gauge → Type 0 where
   ask : {h : History} {g : Gauge} {s before after : List ℕ} {r : Answered} → Trace h g
       → Sent before (answerOf (length before) g s) after (r .written) × (r .gauge ≡ afterOf (length before) g s)
       → Trace (asked s before (r .written .number) (r .written .len) after ∷ h) (r .gauge)
-  tell : {h : History} {g : Gauge} {p : Pressure} {r : Benched} → Trace h g → r ≡ benched g p → Trace (set p (r .number) ∷ h) (r .gauge)
+  setBench : {h : History} {g : Gauge} {p : Pressure} {r : BenchAnswer} → Trace h g → r ≡ benched g p → Trace (benchSet p (r .number) ∷ h) (r .gauge)
 
 -- ---- what the rules fix
 
@@ -59,7 +59,7 @@ pub data Trace : History → Gauge → Type 0 where
 abbrev pub Fixed : Model → Exchange → Type 0
 Fixed m (asked s before number len after) =
     Sent before (answerOf (length before) (gaugeOf m) s) after (record { number = number; len = len }) × (len ≤ length before)
-Fixed m (set p number) = number ≡ benched (gaugeOf m) p .number
+Fixed m (benchSet p number) = number ≡ benched (gaugeOf m) p .number
 
 -- each call's answer is what the rules fix from the model of the calls before it
 abbrev pub AllFixed : History → Type 0
@@ -94,12 +94,12 @@ writes Gas s = pick (isWrite 22000 s && eqb (at s 10) 1) (some (at s 15)) none
 -- what a call, by its bytes and its answered number, says of a setting
 unfoldable pub saysSetting : Key → Exchange → Option ℕ
 saysSetting key (asked s before number len after) = pick (eqb number 20) (writes key s) none
-saysSetting key (set p number) = none
+saysSetting key (benchSet p number) = none
 
 -- what a call says of the pressure: an accepted bench setting, and nothing else
 unfoldable pub saysPressure : Exchange → Option Pressure
 saysPressure (asked s before number len after) = none
-saysPressure (set p number) = pick (eqb number 20) (some p) none
+saysPressure (benchSet p number) = pick (eqb number 20) (some p) none
 
 -- ---- the claim
 

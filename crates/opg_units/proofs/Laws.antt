@@ -1,4 +1,4 @@
--- Which floats are no NaN, and the program's literals. Assumes nothing.
+-- Which floats are no NaN, and the program's literals.
 use mathlib.Core.Path.{_≡_, refl, sym}
 use mathlib.Core.Bool.{Bool, true, false, not, cond, true≢false}
 use Prim.Native.Nat.{ℕ, zero, suc, _+_, _-_, _*_, _/_, _%_, _^_, compare}

@@ -1,4 +1,4 @@
--- Document 01, "OPG frames": pressures as f32, by their 32 bits, and their units. Assumes nothing.
+-- Document 01, "OPG frames": pressures as f32, by their 32 bits, and their units.
 use mathlib.Core.Bool.{Bool, false, not, _&&_}
 use mathlib.Core.List.{[], _∷_}
 use Prim.Native.Nat.{ℕ, _/_, _%_}

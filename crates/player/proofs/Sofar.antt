@@ -1,5 +1,4 @@
 -- The loop of a play on plain values: what holds of the calls made so far, how one call more keeps it, and what it gives at the end.
--- Assumes nothing.
 use mathlib.Core.Path.{_≡_, refl, sym, ap, subst, _∙_}
 use mathlib.Core.Bool.{true, false, not, true≢false}
 use mathlib.Core.Logic.{inl, inr}
@@ -10,9 +9,11 @@ use native.Mathlib.Numerals.{add-one}
 use native.Mathlib.Omega.{arith}
 use lib.ListN.{length, drop, getD, set, length-append, length-set}
 use lib.Seq.{drop-cons, append-snoc, set-at}
-use Rattle.sequence_facts.specs.Claimed as text
-use Rattle.opg_sequence_facts.specs.Claimed as opg
-use Rattle.player.specs.Played.{Exchange, History, numberOf, lengthOf, inOrder, Standing, advance, playOf, beginning, Claims, ends, Ran}
+use Rattle.sequence_facts.proofs.Claimed as text
+use Rattle.opg_sequence_facts.proofs.Claimed as opg
+use Rattle.sequence_facts.proofs.Claimed as text
+use Rattle.opg_sequence_facts.proofs.Claimed as opg
+use Rattle.player.specs.Played.{Exchange, History, answeredNumber, lengthOf, inOrder, Standing, advance, playOf, beginning, Claims, ends, Ran}
 use Rattle.player.specs.Inner.{Traces, Took, One}
 use Rattle.player.specs.declared.Gauges.{Gauges}
 use Rattle.player.specs.declared.Turn.{Turn}
@@ -24,7 +25,7 @@ pub record Sofar (script memory₀ numbers₀ lens₀ : List ℕ) (g : Gauges) (
   pub places : i ≤ min (length numbers₀) (length lens₀)
   pub trace : Traces history g
   pub count : i ≡ length history
-  pub numbers-are : numbers ≡ inOrder numberOf history ++ drop i numbers₀
+  pub numbers-are : numbers ≡ inOrder answeredNumber history ++ drop i numbers₀
   pub lengths-are : lens ≡ inOrder lengthOf history ++ drop i lens₀
   pub at-in : at ≤ length script
   pub used-in : used ≤ length memory
@@ -88,7 +89,7 @@ took {script} {memory₀} {numbers₀} {lens₀} {i = i} {numbers = numbers} {le
       places = omega arith;
       trace = t .made .follows (s .history) (s .trace);
       count = add-one i ∙ ap suc (s .count);
-      numbers-are = kept numberOf (t .exchange) (s .history) numbers₀ numbers i (r .number) (s .numbers-are) (s .count) in-numbers (t .made .number-is);
+      numbers-are = kept answeredNumber (t .exchange) (s .history) numbers₀ numbers i (r .number) (s .numbers-are) (s .count) in-numbers (t .made .number-is);
       lengths-are = kept lengthOf (t .exchange) (s .history) lens₀ lens i (r .len) (s .lengths-are) (s .count) in-lens (t .made .length-is);
       at-in = t .at-in;
       used-in = subst (λ (k : ℕ). r .used ≤ k) (sym same) (t .used-in);
@@ -107,7 +108,7 @@ next in-numbers in-lens same more s (inr t) = took in-numbers in-lens same s t
 
 -- the claim follows for each gauge
 claimed : {h : History} {g : Gauges} → Traces h g → Claims h g
-claimed t = record { of-text-gauge = text.claimed (t .of-text-gauge); of-opg-gauge = opg.claimed (t .of-opg-gauge) }
+claimed t = record { of-text-gauge = text.claimed _ _ (t .of-text-gauge); of-opg-gauge = opg.claimed _ _ (t .of-opg-gauge) }
 
 -- the end of the play
 pub done : {script memory₀ numbers₀ lens₀ : List ℕ} {g : Gauges} {at used i : ℕ} {memory numbers lens : List ℕ}

@@ -1,4 +1,4 @@
--- One call of a script, on plain values. Assumes nothing.
+-- One call of a script, on plain values.
 use mathlib.Core.Path.{_≡_, refl, sym, ap, subst, _∙_}
 use mathlib.Core.Bool.{true, false}
 use mathlib.Core.Logic.{inl, inr}
@@ -13,15 +13,17 @@ use Rattle.buffer.specs.declared.Written.{Written}
 use Rattle.readings.specs.Bench.{benchOf, benchNumber}
 use Rattle.readings.specs.declared.Bench.{Bench}
 use Rattle.opg_gauge.specs.declared.Pressure.{Pressure}
-use Rattle.sequence_facts.specs.Claimed as text
-use Rattle.opg_sequence_facts.specs.Claimed as opg
+use Rattle.sequence_facts.proofs.Claimed as text
+use Rattle.opg_sequence_facts.proofs.Claimed as opg
+use Rattle.sequence_facts.proofs.Claimed as text
+use Rattle.opg_sequence_facts.proofs.Claimed as opg
 use Rattle.script.specs.Script.{callAt, roomOf}
 use Rattle.script.specs.declared.To.{To}
 use Rattle.script.specs.declared.To.the-variants.{Text, Opg}
 use Rattle.script.specs.declared.Call.{Call}
-use Rattle.script.specs.declared.Call.the-variants.{Request, Line, Setting, Offer, End}
-use Rattle.player.specs.Played.{Exchange, asked, lined, told, offered, History, numberOf, lengthOf, answerTo, lineFor, offerNumber, Standing, answered, made, advance}
-use Rattle.player.specs.Advance.{advances, stands}
+use Rattle.script.specs.declared.Call.the-variants.{Request, Line, SetBench, SetOpgBench, End}
+use Rattle.player.specs.Played.{Exchange, asked, lined, benchSet, opgBenchSet, History, answeredNumber, lengthOf, answerTo, lineFor, opgBenchNumber, Standing, answered, made, advance}
+use Rattle.player.proofs.Advance.{advances, stands}
 use Rattle.player.specs.Inner.{Traces, Made, One}
 use Rattle.player.specs.declared.Gauges.{Gauges}
 use Rattle.player.specs.declared.Turn.{Turn}
@@ -37,7 +39,7 @@ reply-fits {before} {after} {a} {w} f e =
 abbrev turn : Gauges → ℕ → ℕ → ℕ → ℕ → Turn
 turn g at used n l = record { gauges = g; at = at; used = used; number = n; len = l; more = true }
 
-made-by : (g : Gauges) (e : ℕ → ℕ → Exchange) (g′ : Gauges) (at used n l : ℕ) (r : Turn) → r ≡ turn g′ at used n l → numberOf (e n l) ≡ n → lengthOf (e n l) ≡ l
+made-by : (g : Gauges) (e : ℕ → ℕ → Exchange) (g′ : Gauges) (at used n l : ℕ) (r : Turn) → r ≡ turn g′ at used n l → answeredNumber (e n l) ≡ n → lengthOf (e n l) ≡ l
     → ((h : History) → Traces h g → Traces (e n l ∷ h) g′) → Made g (e (r .number) (r .len)) at used r
 made-by g e g′ at used n l r q number length follows =
     subst (λ (r : Turn). Made g (e (r .number) (r .len)) at used r) (sym q)
@@ -52,12 +54,12 @@ module _ {g g′ : Gauges} {at used n : ℕ} {r : Turn} where
       → Made g (lined before (r .number) (r .len) after) at used r
   lined-made {l} {before} {after} q f = made-by g (λ n l. lined before n l after) g′ at used n l r q refl refl f
 
-  pub told-made : {b : Bench} → r ≡ turn g′ at used n 0 → ((h : History) → Traces h g → Traces (told b n ∷ h) g′) → Made g (told b (r .number)) at used r
-  told-made {b} q f = made-by g (λ n l. told b n) g′ at used n 0 r q refl refl f
+  pub bench-set-made : {b : Bench} → r ≡ turn g′ at used n 0 → ((h : History) → Traces h g → Traces (benchSet b n ∷ h) g′) → Made g (benchSet b (r .number)) at used r
+  bench-set-made {b} q f = made-by g (λ n l. benchSet b n) g′ at used n 0 r q refl refl f
 
-  pub offered-made : {p : Pressure} → r ≡ turn g′ at used n 0 → ((h : History) → Traces h g → Traces (offered p n ∷ h) g′)
-      → Made g (offered p (r .number)) at used r
-  offered-made {p} q f = made-by g (λ n l. offered p n) g′ at used n 0 r q refl refl f
+  pub opg-bench-set-made : {p : Pressure} → r ≡ turn g′ at used n 0 → ((h : History) → Traces h g → Traces (opgBenchSet p n ∷ h) g′)
+      → Made g (opgBenchSet p (r .number)) at used r
+  opg-bench-set-made {p} q f = made-by g (λ n l. opgBenchSet p n) g′ at used n 0 r q refl refl f
 
 -- a part lent has as many bytes as its call says
 pub part-short : (memory : List ℕ) (used room : ℕ) → room < 65536 → length (take (used + room - used) (drop used memory)) < 65536
@@ -71,18 +73,18 @@ read P x e q = (sym (e .0) ∙ q, subst P q (e .1))
 
 asked-fixed : (to : To) {g : Gauges} {h : History} {s before after : List ℕ} {n l : ℕ} → Traces (asked to s before n l after ∷ h) g
     → Sent before (answerTo to h (length before) s) after (record { number = n; len = l }) × (l ≤ length before)
-asked-fixed Text t = text.claimed (t .of-text-gauge) .answers .0
-asked-fixed Opg t = opg.claimed (t .of-opg-gauge) .answers .0
+asked-fixed Text t = text.claimed _ _ (t .of-text-gauge) .answers .0
+asked-fixed Opg t = opg.claimed _ _ (t .of-opg-gauge) .answers .0
 
 lined-fixed : {g : Gauges} {h : History} {before after : List ℕ} {n l : ℕ} → Traces (lined before n l after ∷ h) g
     → Sent before (lineFor h (length before)) after (record { number = n; len = l }) × (l ≤ length before)
-lined-fixed t = text.claimed (t .of-text-gauge) .answers .0
+lined-fixed t = text.claimed _ _ (t .of-text-gauge) .answers .0
 
-told-fixed : {g : Gauges} {h : History} {b : Bench} {n : ℕ} → Traces (told b n ∷ h) g → n ≡ benchNumber (benchOf b)
-told-fixed t = text.claimed (t .of-text-gauge) .answers .0
+bench-set-fixed : {g : Gauges} {h : History} {b : Bench} {n : ℕ} → Traces (benchSet b n ∷ h) g → n ≡ benchNumber (benchOf b)
+bench-set-fixed t = text.claimed _ _ (t .of-text-gauge) .answers .0
 
-offered-fixed : {g : Gauges} {h : History} {p : Pressure} {n : ℕ} → Traces (offered p n ∷ h) g → n ≡ offerNumber h p
-offered-fixed t = opg.claimed (t .of-opg-gauge) .answers .0
+opg-bench-set-fixed : {g : Gauges} {h : History} {p : Pressure} {n : ℕ} → Traces (opgBenchSet p n ∷ h) g → n ≡ opgBenchNumber h p
+opg-bench-set-fixed t = opg.claimed _ _ (t .of-opg-gauge) .answers .0
 
 -- ---- the memory
 
@@ -183,17 +185,17 @@ module _ (script memory : List ℕ) (g : Gauges) (at used : ℕ) where
       n : Made g (lined before (r .number) (r .len) after) (at + 3) (used + room) r
       n = rw (add-sub-cancel-left used room) at m
 
-  pub setting-one : (b : Bench) (r : Turn) → at + 10 ≤ length script → callAt script at ≡ Setting b → used ≤ length memory
-      → Made g (told b (r .number)) (at + 10) used r → One script memory g at used r memory
+  pub setting-one : (b : Bench) (r : Turn) → at + 10 ≤ length script → callAt script at ≡ SetBench b → used ≤ length memory
+      → Made g (benchSet b (r .number)) (at + 10) used r → One script memory g at used r memory
   unfolding made
   setting-one b r h e fits m =
-      took-one (told b (r .number)) (at + 10) used r memory m h fits (λ h t. advances script (standing h) (Setting b) e (omega arith) ∙ sym (rw (told-fixed (m .follows h t))))
+      took-one (benchSet b (r .number)) (at + 10) used r memory m h fits (λ h t. advances script (standing h) (SetBench b) e (omega arith) ∙ sym (rw (bench-set-fixed (m .follows h t))))
 
-  pub offer-one : (p : Pressure) (r : Turn) → at + 6 ≤ length script → callAt script at ≡ Offer p → used ≤ length memory
-      → Made g (offered p (r .number)) (at + 6) used r → One script memory g at used r memory
+  pub opg-bench-one : (p : Pressure) (r : Turn) → at + 6 ≤ length script → callAt script at ≡ SetOpgBench p → used ≤ length memory
+      → Made g (opgBenchSet p (r .number)) (at + 6) used r → One script memory g at used r memory
   unfolding made
-  offer-one p r h e fits m =
-      took-one (offered p (r .number)) (at + 6) used r memory m h fits (λ h t. advances script (standing h) (Offer p) e (omega arith) ∙ sym (rw (offered-fixed (m .follows h t))))
+  opg-bench-one p r h e fits m =
+      took-one (opgBenchSet p (r .number)) (at + 6) used r memory m h fits (λ h t. advances script (standing h) (SetOpgBench p) e (omega arith) ∙ sym (rw (opg-bench-set-fixed (m .follows h t))))
 
   -- no call was made: too little memory is left for it, or there is none
   pub no-room : (k : Call) (r : Turn) → callAt script at ≡ k → used ≤ length memory → length memory - used < roomOf k → r .more ≡ false

@@ -1,16 +1,16 @@
--- The script of a sequence of calls. Assumes nothing.
+-- The script of a sequence of calls.
 use mathlib.Core.Bool.{cond}
 use mathlib.Core.List.{List, [], _∷_, _++_}
 use Prim.Native.Nat.{ℕ, _+_, _<_}
 use lib.ListN.{length}
 use Rattle.readings.specs.declared.Bench.{Bench}
-use Rattle.readings.specs.declared.Bench.the-variants.{Reads, BelowRange, AboveRange, Fault, Status}
+use Rattle.readings.specs.declared.Bench.the-variants.{Reads, UnderRange, OverRange, Faulty, Status}
 use Rattle.opg_gauge.specs.declared.Pressure.{Pressure}
 use Rattle.opg_gauge.specs.declared.Pressure.the-variants.{Bits, Unavailable}
 use Rattle.script.specs.Number.{pairBytes, wordBytes}
 use Rattle.script.specs.declared.To.{To}
 use Rattle.script.specs.declared.To.the-variants.{Text, Opg}
-use Rattle.player.specs.Played.{Exchange, asked, lined, told, offered}
+use Rattle.player.specs.Played.{Exchange, asked, lined, benchSet, opgBenchSet}
 
 -- a call before it is answered: a request to one of the gauges, the stream line, a bench setting of the text gauge, one of the OPG
 pub data Fed : Type 0 where
@@ -22,8 +22,8 @@ pub data Fed : Type 0 where
 abbrev pub fed : Exchange → Fed
 fed (asked to s before number len after) = request to s (length before)
 fed (lined before number len after) = line (length before)
-fed (told b number) = bench b
-fed (offered p number) = pressure p
+fed (benchSet b number) = bench b
+fed (opgBenchSet p number) = pressure p
 
 -- how many bytes of memory a call asks for
 abbrev pub lentTo : Fed → ℕ
@@ -41,9 +41,9 @@ kindOf Opg = 3
 -- what follows the kind of a bench setting
 unfoldable pub benchBytes : Bench → List ℕ
 benchBytes (Reads code x) = 0 ∷ code ∷ cond (x .negative) 1 0 ∷ wordBytes (x .digits) ++ x .up ∷ x .down ∷ []
-benchBytes (BelowRange code) = 1 ∷ code ∷ 0 ∷ 0 ∷ 0 ∷ 0 ∷ 0 ∷ 0 ∷ 0 ∷ []
-benchBytes (AboveRange code) = 2 ∷ code ∷ 0 ∷ 0 ∷ 0 ∷ 0 ∷ 0 ∷ 0 ∷ 0 ∷ []
-benchBytes (Fault code) = 3 ∷ code ∷ 0 ∷ 0 ∷ 0 ∷ 0 ∷ 0 ∷ 0 ∷ 0 ∷ []
+benchBytes (UnderRange code) = 1 ∷ code ∷ 0 ∷ 0 ∷ 0 ∷ 0 ∷ 0 ∷ 0 ∷ 0 ∷ []
+benchBytes (OverRange code) = 2 ∷ code ∷ 0 ∷ 0 ∷ 0 ∷ 0 ∷ 0 ∷ 0 ∷ 0 ∷ []
+benchBytes (Faulty code) = 3 ∷ code ∷ 0 ∷ 0 ∷ 0 ∷ 0 ∷ 0 ∷ 0 ∷ 0 ∷ []
 benchBytes (Status v) = 4 ∷ v ∷ 0 ∷ 0 ∷ 0 ∷ 0 ∷ 0 ∷ 0 ∷ 0 ∷ []
 
 unfoldable pub pressureBytes : Pressure → List ℕ
@@ -82,9 +82,9 @@ abbrev pub Sendable : Fed → Type 0
 Sendable (request to s lent) = Bytes s × (length s < 65536) × (lent < 65536)
 Sendable (line lent) = lent < 65536
 Sendable (bench (Reads code x)) = (code < 256) × (x .digits < 4294967296) × (x .up < 256) × (x .down < 256)
-Sendable (bench (BelowRange code)) = code < 256
-Sendable (bench (AboveRange code)) = code < 256
-Sendable (bench (Fault code)) = code < 256
+Sendable (bench (UnderRange code)) = code < 256
+Sendable (bench (OverRange code)) = code < 256
+Sendable (bench (Faulty code)) = code < 256
 Sendable (bench (Status v)) = v < 256
 Sendable (pressure (Bits w)) = w < 4294967296
 Sendable (pressure Unavailable) = Unit {0}

@@ -1,4 +1,4 @@
--- What inner functions promise; no public contract cites this file. Assumes nothing.
+-- What inner functions promise; no public contract cites this file.
 use mathlib.Core.Path.{_≡_}
 use mathlib.Core.Bool.{true, false}
 use mathlib.Core.Logic.{_⊎_}
@@ -7,7 +7,7 @@ use Prim.Native.Nat.{ℕ, _≤_}
 use lib.ListN.{length}
 use Rattle.sequence_facts.specs.Sequence as text
 use Rattle.opg_sequence_facts.specs.Sequence as opg
-use Rattle.player.specs.Played.{Exchange, History, texts, opgs, numberOf, lengthOf, advance}
+use Rattle.player.specs.Played.{Exchange, History, texts, opgs, answeredNumber, lengthOf, advance}
 use Rattle.player.specs.declared.Gauges.{Gauges}
 use Rattle.player.specs.declared.Turn.{Turn}
 
@@ -21,7 +21,7 @@ pub record Made (g : Gauges) (e : Exchange) (at used : ℕ) (r : Turn) : Type 0 
   pub more-is : r .more ≡ true
   pub at-is : r .at ≡ at
   pub used-is : r .used ≡ used
-  pub number-is : r .number ≡ numberOf e
+  pub number-is : r .number ≡ answeredNumber e
   pub length-is : r .len ≡ lengthOf e
   pub follows : (h : History) → Traces h g → Traces (e ∷ h) (r .gauges)
 

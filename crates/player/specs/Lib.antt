@@ -1,6 +1,5 @@
 -- What playing a script promises, and that every sequence of calls has a script.
 pub mod Played
-pub mod Advance
 pub mod Inner
 pub mod Encoded
-pub mod PlaysAll
+pub mod Theorems

@@ -1,5 +1,5 @@
 -- What playing a script promises: the calls that were made are the script's, each answered as the rules fix it, and the claim on sequences holds
--- of them, for both gauges. Assumes nothing.
+-- of them, for both gauges.
 use mathlib.Core.Path.{_≡_}
 use mathlib.Core.List.{List, [], _∷_, _++_}
 use Prim.Native.Nat.{ℕ, zero, suc, _+_, min}
@@ -22,7 +22,7 @@ use Rattle.script.specs.Script.{callAt, roomOf}
 use Rattle.script.specs.declared.To.{To}
 use Rattle.script.specs.declared.To.the-variants.{Text, Opg}
 use Rattle.script.specs.declared.Call.{Call}
-use Rattle.script.specs.declared.Call.the-variants.{Request, Line, Setting, Offer, End}
+use Rattle.script.specs.declared.Call.the-variants.{Request, Line, SetBench, SetOpgBench, End}
 use Rattle.player.specs.declared.Gauges.{Gauges}
 
 -- ---- calls
@@ -31,8 +31,8 @@ use Rattle.player.specs.declared.Gauges.{Gauges}
 pub data Exchange : Type 0 where
   asked : (to : To) (s before : List ℕ) (number len : ℕ) (after : List ℕ) → Exchange
   lined : (before : List ℕ) (number len : ℕ) (after : List ℕ) → Exchange
-  told : (b : Bench) (number : ℕ) → Exchange
-  offered : (p : Pressure) (number : ℕ) → Exchange
+  benchSet : (b : Bench) (number : ℕ) → Exchange
+  opgBenchSet : (p : Pressure) (number : ℕ) → Exchange
 
 -- the calls that were made, the latest first
 abbrev pub History : Type 0
@@ -44,29 +44,29 @@ texts [] = []
 texts (asked Text s before number len after ∷ h) = text.asked s before number len after ∷ texts h
 texts (asked Opg s before number len after ∷ h) = texts h
 texts (lined before number len after ∷ h) = text.lined before number len after ∷ texts h
-texts (told b number ∷ h) = text.set b number ∷ texts h
-texts (offered p number ∷ h) = texts h
+texts (benchSet b number ∷ h) = text.benchSet b number ∷ texts h
+texts (opgBenchSet p number ∷ h) = texts h
 
 abbrev pub opgs : History → opg.History
 opgs [] = []
 opgs (asked Text s before number len after ∷ h) = opgs h
 opgs (asked Opg s before number len after ∷ h) = opg.asked s before number len after ∷ opgs h
 opgs (lined before number len after ∷ h) = opgs h
-opgs (told b number ∷ h) = opgs h
-opgs (offered p number ∷ h) = opg.set p number ∷ opgs h
+opgs (benchSet b number ∷ h) = opgs h
+opgs (opgBenchSet p number ∷ h) = opg.benchSet p number ∷ opgs h
 
 -- an answer's number, and its reply's length: a bench setting has no reply
-abbrev pub numberOf : Exchange → ℕ
-numberOf (asked to s before number len after) = number
-numberOf (lined before number len after) = number
-numberOf (told b number) = number
-numberOf (offered p number) = number
+abbrev pub answeredNumber : Exchange → ℕ
+answeredNumber (asked to s before number len after) = number
+answeredNumber (lined before number len after) = number
+answeredNumber (benchSet b number) = number
+answeredNumber (opgBenchSet p number) = number
 
 abbrev pub lengthOf : Exchange → ℕ
 lengthOf (asked to s before number len after) = len
 lengthOf (lined before number len after) = len
-lengthOf (told b number) = 0
-lengthOf (offered p number) = 0
+lengthOf (benchSet b number) = 0
+lengthOf (opgBenchSet p number) = 0
 
 -- what f gives for each exchange, in the order of the calls
 abbrev pub inOrder : {A : Type 0} → (Exchange → A) → History → List A
@@ -82,8 +82,8 @@ answerTo Opg h room s = opg-answers.answerOf room (gaugeOf (opg.model (opgs h)))
 abbrev pub lineFor : History → ℕ → Answer
 lineFor h room = lineAnswer room (text.model (texts h) .settings) (text.model (texts h) .readings)
 
-abbrev pub offerNumber : History → Pressure → ℕ
-offerNumber h q = benched (gaugeOf (opg.model (opgs h))) q .number
+abbrev pub opgBenchNumber : History → Pressure → ℕ
+opgBenchNumber h q = benched (gaugeOf (opg.model (opgs h))) q .number
 
 -- ---- the play of a script
 
@@ -111,8 +111,8 @@ made script p (Request to room len) =
 made script p (Line room) =
     let a = lineFor (p .history) (length (lent p room)) in
     answered p room a (lined (lent p room) (a .number) (length (a .reply)) (over (a .reply) (lent p room))) (p .at + 3)
-made script p (Setting b) = record { history = told b (benchNumber (benchOf b)) ∷ p .history; at = p .at + 10; used = p .used; memory = p .memory }
-made script p (Offer q) = record { history = offered q (offerNumber (p .history) q) ∷ p .history; at = p .at + 6; used = p .used; memory = p .memory }
+made script p (SetBench b) = record { history = benchSet b (benchNumber (benchOf b)) ∷ p .history; at = p .at + 10; used = p .used; memory = p .memory }
+made script p (SetOpgBench q) = record { history = opgBenchSet q (opgBenchNumber (p .history) q) ∷ p .history; at = p .at + 6; used = p .used; memory = p .memory }
 made script p End = p
 
 -- one call more, unless no whole call stands next, or the memory left is too small for it
@@ -145,6 +145,6 @@ ends script memory numbers lens = playOf (min (length numbers) (length lens)) sc
 pub record Ran (script memory numbers lens : List ℕ) (gauges : Gauges) (calls : ℕ) (memory′ numbers′ lens′ : List ℕ) : Type 0 where
   pub calls-are : calls ≡ length (ends script memory numbers lens .history)
   pub memory-is : memory′ ≡ ends script memory numbers lens .memory
-  pub numbers-are : numbers′ ≡ inOrder numberOf (ends script memory numbers lens .history) ++ drop calls numbers
+  pub numbers-are : numbers′ ≡ inOrder answeredNumber (ends script memory numbers lens .history) ++ drop calls numbers
   pub lengths-are : lens′ ≡ inOrder lengthOf (ends script memory numbers lens .history) ++ drop calls lens
   pub claims : Claims (ends script memory numbers lens .history) gauges

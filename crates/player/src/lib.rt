@@ -5,7 +5,7 @@ ghost use mathlib.Core.List.{[]};
 ghost use Prim.Native.Nat.{_<_, _≤_};
 ghost use lib.ListN.{length};
 ghost use Rattle.script.specs.declared.To.the-variants.{Text, Opg};
-ghost use Rattle.player.specs.Played.{asked, lined, told, offered, Ran};
+ghost use Rattle.player.specs.Played.{asked, lined, benchSet, opgBenchSet, Ran};
 ghost use Rattle.player.specs.Inner.{Traces, Made, One};
 
 // The two gauges.
@@ -105,25 +105,25 @@ fn show(g: Gauges, part: &mut [u8], at: usize, used: usize) -> Turn
 }
 
 // A bench setting of the text gauge, which has no reply.
-fn tell(g: Gauges, b: readings::Bench, at: usize, used: usize) -> Turn
-    ensures { λ r. ⌜ Made g (told b (r .number)) at used r ⌝ }
+fn set_bench(g: Gauges, b: readings::Bench, at: usize, used: usize) -> Turn
+    ensures { λ r. ⌜ Made g (benchSet b (r .number)) at used r ⌝ }
 {
     let old = g.text;
     let opg = g.opg;
     let a = text_gauge::set_bench(old, b);
-    let told = a.gauge;
-    made(Gauges { text: told, opg }, at, used, a.number, 0)
+    let after = a.gauge;
+    made(Gauges { text: after, opg }, at, used, a.number, 0)
 }
 
 // A bench setting of the OPG, which has no reply.
-fn offer(g: Gauges, p: opg_gauge::Pressure, at: usize, used: usize) -> Turn
-    ensures { λ r. ⌜ Made g (offered p (r .number)) at used r ⌝ }
+fn set_opg_bench(g: Gauges, p: opg_gauge::Pressure, at: usize, used: usize) -> Turn
+    ensures { λ r. ⌜ Made g (opgBenchSet p (r .number)) at used r ⌝ }
 {
     let old = g.opg;
     let text = g.text;
     let a = old.bench(p);
-    let told = a.gauge;
-    made(Gauges { text, opg: told }, at, used, a.number, 0)
+    let after = a.gauge;
+    made(Gauges { text, opg: after }, at, used, a.number, 0)
 }
 
 // The call at place `at` of the script, with the memory from `used` on.
@@ -155,8 +155,8 @@ fn one(g: Gauges, script: &[u8], at: usize, memory: &mut [u8], used: usize) -> T
             let end = used + room;
             show(g, &mut memory[used..end], at + 3, end)
         }
-        script::Call::Setting(b) => tell(g, b, at + 10, used),
-        script::Call::Offer(p) => offer(g, p, at + 6, used),
+        script::Call::SetBench(b) => set_bench(g, b, at + 10, used),
+        script::Call::SetOpgBench(p) => set_opg_bench(g, p, at + 6, used),
         script::Call::End => stop(g),
     }
 }

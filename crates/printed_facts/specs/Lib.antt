@@ -1,4 +1,2 @@
--- The texts that requests and replies carry: their bytes are 32 to 126, and they fit a frame; requests can be sent.
-pub mod Printed
-pub mod Fits
-pub mod Sendable
+-- The texts that requests and replies carry: what holds of them, to lay beside document 01. Printed says what bytes they have, Theorems what holds.
+pub mod Theorems

@@ -1,11 +1,11 @@
--- The values that a line shows: how long they are, and which characters are in them. Assumes nothing.
+-- The values that a line shows: how long they are, and which characters are in them; and a law of the bench's limits.
 use mathlib.Core.Path.{_≡_, refl, sym, ap, _∙_}
 use mathlib.Core.Bool.{Bool, true, false, cond, _&&_, _||_, true≢false, and-eq-true-iff}
 use mathlib.Core.List.{List, [], _∷_, _++_}
-use Prim.Native.Nat.{ℕ, _-_, _/_, _≤_}
+use Prim.Native.Nat.{ℕ, _-_, _/_, _<_, _≤_}
 use native.Mathlib.Numerals.{add-one}
 use native.Mathlib.Omega.{arith}
-use borrow.Author.Tests.{ne-eqb}
+use borrow.Author.Tests.{ne-eqb, ltb-false}
 use lib.Dec.{eqb, ltb}
 use lib.ListN.{length, length-append}
 use Rattle.buffer.specs.Byte.{within, every, untilOf, digit, digits2, digits3}
@@ -14,13 +14,14 @@ use Rattle.buffer.proofs.Rules.{each}
 use Rattle.decimal.specs.declared.Number.{Number}
 use Rattle.decimal_text.specs.Written.{signText, trimmed, pointed, digits5, exponentText, writtenOf, wholeText, twoDecimals}
 use Rattle.decimal_text.proofs.Laws.{written-le, two-le}
-use Rattle.frame_writer.specs.Error.{errorBytes}
-use Rattle.frame_writer.specs.declared.ErrorText.the-variants.{Error1}
+use Rattle.error_texts.specs.Texts.{errorBytes}
+use Rattle.error_texts.specs.declared.ErrorText.the-variants.{Error1}
 use Rattle.readings.specs.Reading.{pressureText, temperatureText, valueText}
+use Rattle.readings.specs.Bench.{mostDegrees, outsideDegrees}
 use Rattle.readings.specs.declared.Pressure.{Pressure}
-use Rattle.readings.specs.declared.Pressure.the-variants.{Measured, Under, Over, Faulty}
+use Rattle.readings.specs.declared.Pressure.the-variants.{Measured, UnderRange, OverRange}
 use Rattle.readings.specs.declared.Temperature.{Temperature}
-use Rattle.readings.specs.declared.Temperature.the-variants.{Degrees, Failed}
+use Rattle.readings.specs.declared.Temperature.the-variants.{Degrees}
 use Rattle.readings.specs.declared.Readings.{Readings}
 
 -- whatever holds of each pressure's and each temperature's text, and of `ERROR1`, holds of every value
@@ -45,14 +46,14 @@ pressure-le (Measured n) = omega (arith, written-le n, one (n .negative))
     one : (b : Bool) → cond b 1 0 ≤ 1
     one true = omega arith
     one false = omega arith
-pressure-le Under = omega arith
-pressure-le Over = omega arith
-pressure-le Faulty = omega arith
+pressure-le UnderRange = omega arith
+pressure-le OverRange = omega arith
+pressure-le Pressure.Faulty = omega arith
 
 temperature-le : (t : Temperature) → length (temperatureText t) ≤ 11
 unfolding temperatureText errorBytes
 temperature-le (Degrees negative h) = omega (arith, two-le negative h)
-temperature-le Failed = omega arith
+temperature-le Temperature.Faulty = omega arith
 
 -- "eight rows of eleven characters"
 pub value-le : (c : ℕ) (r : Readings) → length (valueText c r) ≤ 11
@@ -68,14 +69,14 @@ written-some n =
 pressure-some : (p : Pressure) → 1 ≤ length (pressureText p)
 unfolding pressureText errorBytes
 pressure-some (Measured n) = written-some n
-pressure-some Under = omega arith
-pressure-some Over = omega arith
-pressure-some Faulty = omega arith
+pressure-some UnderRange = omega arith
+pressure-some OverRange = omega arith
+pressure-some Pressure.Faulty = omega arith
 
 temperature-some : (t : Temperature) → 1 ≤ length (temperatureText t)
 unfolding temperatureText twoDecimals errorBytes
 temperature-some (Degrees negative h) = simp length-append (omega arith)
-temperature-some Failed = omega arith
+temperature-some Temperature.Faulty = omega arith
 
 -- no value is empty
 pub value-some : (c : ℕ) (r : Readings) → 1 ≤ length (valueText c r)
@@ -186,14 +187,14 @@ two-clean negative h =
 pressure-clean : (p : Pressure) → Clean (pressureText p)
 unfolding pressureText errorBytes every shown within
 pressure-clean (Measured n) = written-clean n
-pressure-clean Under = refl
-pressure-clean Over = refl
-pressure-clean Faulty = refl
+pressure-clean UnderRange = refl
+pressure-clean OverRange = refl
+pressure-clean Pressure.Faulty = refl
 
 temperature-clean : (t : Temperature) → Clean (temperatureText t)
 unfolding temperatureText errorBytes every shown within
 temperature-clean (Degrees negative h) = two-clean negative h
-temperature-clean Failed = refl
+temperature-clean Temperature.Faulty = refl
 
 value-shown : (c : ℕ) (r : Readings) → Clean (valueText c r)
 unfolding errorBytes every shown within
@@ -210,3 +211,13 @@ until-clean b (x ∷ s) e h =
 -- no value has it
 pub value-clean : (b c : ℕ) (r : Readings) → shown b ≡ false → untilOf b (valueText c r) ≡ length (valueText c r)
 value-clean b c r e = until-clean b (valueText c r) e (value-shown c r)
+
+-- ---- limits
+
+-- a temperature within its limits fits its field
+pub outside-small : (negative : Bool) (h : ℕ) → outsideDegrees negative h ≡ false → h < 65536
+outside-small negative h e = omega (arith, ltb-false (mostDegrees negative) h e, most negative)
+  where
+    most : (b : Bool) → mostDegrees b < 65536
+    most true = omega arith
+    most false = omega arith

@@ -1,4 +1,4 @@
--- A bench setting is for the source that it names, and the line shows each source's own reading: the proofs. Assumes nothing.
+-- A bench setting is for the source that it names, and the line shows each source's own reading: the proofs.
 use mathlib.Core.Path.{_≡_, refl, ap}
 use mathlib.Core.Bool.{Bool}
 use mathlib.Core.Option.{Option, none, some}
@@ -16,11 +16,12 @@ use Rattle.decimal.specs.declared.Hundredths.the-variants.{Whole, Other}
 use Rattle.readings.specs.Bench.{pressureAt, temperatureAt, pressureOf, degreesOf, temperatureOf, benchOf}
 use Rattle.readings.specs.Place.{Source0, Source1, Source2, Source6, Source7, SourceT2, SourceT6, Status, codeOf, placeOf, readingAt}
 use Rattle.readings.specs.Reading.{valueText}
-use Rattle.readings.specs.There.{names, BenchThere, shownAs, ShownThere}
+use Rattle.readings.specs.There.{names, shownAs}
+use Rattle.readings.specs.Theorems.{BenchThere, ShownThere}
 use Rattle.readings.specs.declared.Pressure.{Pressure}
 use Rattle.readings.specs.declared.Temperature.{Temperature}
 use Rattle.readings.specs.declared.Bench.{Bench}
-use Rattle.readings.specs.declared.Bench.the-variants.{Reads, BelowRange, AboveRange, Fault}
+use Rattle.readings.specs.declared.Bench.the-variants.{Reads, UnderRange, OverRange, Faulty}
 use Rattle.readings.specs.declared.Bench.the-variants as bench
 use Rattle.readings.specs.declared.Benched.{Benched}
 use Rattle.readings.specs.declared.Benched.the-variants.{Accepted, Refused}
@@ -65,9 +66,9 @@ celsius-there code Range = tt
 there : (b : Bench) → There (names b) (benchOf b)
 unfolding benchOf names codeOf placeOf
 there (Reads code x) = each (There (some code)) _ _ _ (λ _. celsius-there code _) (λ _. number-there code _)
-there (BelowRange code) = pressure-there code _
-there (AboveRange code) = pressure-there code _
-there (Fault code) = each (There (some code)) _ _ _ (λ _. temperature-there code _) (λ _. pressure-there code _)
+there (UnderRange code) = pressure-there code _
+there (OverRange code) = pressure-there code _
+there (Faulty code) = each (There (some code)) _ _ _ (λ _. temperature-there code _) (λ _. pressure-there code _)
 there (bench.Status v) = each (There none) _ _ _ (λ _. tt) (λ _. refl)
 
 pub bench-there : BenchThere

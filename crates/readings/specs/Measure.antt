@@ -1,4 +1,4 @@
--- Document 01, "V1 on the same settings": the data that `M` sends. Assumes nothing.
+-- Document 01, "V1 on the same settings": the data that `M` sends.
 use mathlib.Core.List.{List, [], _∷_, _++_}
 use Prim.Native.Nat.{ℕ, _+_, _/_}
 use lib.Dec.{leb}
@@ -6,7 +6,7 @@ use Rattle.buffer.specs.First.{_⇒_, first}
 use Rattle.buffer.specs.Byte.{digit, digits2, digits3}
 use Rattle.decimal.specs.declared.Number.{Number}
 use Rattle.readings.specs.declared.Pressure.{Pressure}
-use Rattle.readings.specs.declared.Pressure.the-variants.{Measured, Under, Over, Faulty}
+use Rattle.readings.specs.declared.Pressure.the-variants.{Measured, UnderRange, OverRange, Faulty}
 
 -- "four mantissa digits and exponent plus 20"
 unfoldable pub sixOf : ℕ → ℕ → List ℕ
@@ -25,6 +25,6 @@ roundedText n =
 -- "`000000` under, `999999` over"; of a faulty sensor "`M` with the data `1`"
 unfoldable pub measureText : Pressure → List ℕ
 measureText (Measured n) = roundedText n
-measureText Under = sixOf 0 0
-measureText Over = sixOf 9999 99
+measureText UnderRange = sixOf 0 0
+measureText OverRange = sixOf 9999 99
 measureText Faulty = 49 ∷ []

@@ -1,4 +1,5 @@
--- The places of the readings: each source's, and FS; the code that names a source. Assumes nothing.
+-- The places of the readings: each source's, and FS; the code that names a source; the list of them.
+use mathlib.Core.List.{List, [], _∷_}
 use mathlib.Core.Option.{Option, none, some}
 use Prim.Native.Nat.{ℕ}
 use Rattle.readings.specs.declared.Reading.{Reading}
@@ -47,3 +48,7 @@ readingAt Source7 r = P7 (r .p7)
 readingAt SourceT2 r = T2 (r .t2)
 readingAt SourceT6 r = T6 (r .t6)
 readingAt Status r = FS (r .status)
+
+-- all of them
+abbrev pub places : List Place
+places = Source0 ∷ Source1 ∷ Source2 ∷ Source6 ∷ Source7 ∷ SourceT2 ∷ SourceT6 ∷ Status ∷ []

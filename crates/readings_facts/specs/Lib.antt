@@ -1,12 +1,7 @@
--- Document 01, "Settings and readings, V2" and V1's `M`: theorems to lay beside the paper. Examples has worked cases. Sound says which
--- readings the bench can set, Kept that no others occur, Handed what a bench setting hands over, Accepts that the bench accepts exactly that,
--- Places that it changes one reading, Widths how wide a value is, HalfUp how `M` rounds.
-pub mod Examples
+-- Document 01, "Settings and readings, V2" and V1's `M`: what holds of the readings and the bench, to lay beside the paper. Sound says which readings
+-- the bench can set, Handed what a bench setting hands over, HalfUp how `M` rounds, Examples has worked cases, Theorems says what holds.
 pub mod Sound
-pub mod Kept
-pub mod Widths
-pub mod HalfUp
-pub mod Places
 pub mod Handed
-pub mod Accepts
-pub mod Lemmas
+pub mod HalfUp
+pub mod Examples
+pub mod Theorems

@@ -12,174 +12,79 @@
 //   reply ADDRESS HEX HEX              reads a request, and then a reply to it that came from this address
 //   opgreply HEX HEX                   the same for an OPG
 //     these print `value TEXT`, `pressure BITS`, `unit N`, `done`, `error TEXT` or `refused N`
+//   write2 LENT ADDRESS REQUEST        writes a typed V2 request:
+//     read COMMAND, restore COMMAND, DA N, DU UNIT, C1 HUNDREDTHS, CM N, CC N, FC N, ST D NUMBER, ST F NUMBER T NUMBER,
+//     SM MODE COUNT CODE CODE CODE CODE CODE CODE CODE
+//     where NUMBER is SIGN MANTISSA PLACE, the value SIGN MANTISSA * 10^(PLACE - 14)
+//   write1 LENT ADDRESS REQUEST        a typed V1 request: M, C1, c1, c HUNDREDTHS, U, u UNIT
+//   writeopg LENT REQUEST              a typed OPG request: pressure N, unit, unit N, off, on SPECTRA GAS
+//     these print NUMBER LENGTH HEX, and `changed`, as `text` does
 // Any other line, and one of more than 65536 bytes, changes nothing and prints `?`. What was played is printed before more input is waited for.
-use libc::STDIN_FILENO;
-use libc::STDOUT_FILENO;
+// A failed read or write is named on standard error, and nothing more is played.
+use call_words::lines;
+use lines::Cursor;
 
-mod call;
-mod print;
-mod reply;
-mod request;
-mod word;
+mod calls;
 
-// The longest line.
-const LINE_MAX: usize = 65536;
-
-// More than a call prints.
-const ROOM: usize = 1024;
-
-// The gauges, how many bytes of the next line there are, which is over LINE_MAX for a line that is too long, and how many bytes wait to be
-// written.
-struct State {
-    world: call::World,
-    len: usize,
-    at: usize,
-}
-
-// The state after a read, and whether the input goes on.
-struct Taken {
-    state: State,
+// The gauges and the input after a turn, and whether there is another.
+struct Turn {
+    world: calls::World,
+    cursor: Cursor,
     more: bool,
 }
 
-// Adds bytes to a line that has `len` of them, and answers how many it then has.
-fn add(line: &mut [u8], len: usize, bytes: &[u8]) -> usize {
-    let room = line.len();
-    if room < len {
-        return len;
-    }
-    if room - len < bytes.len() {
-        return LINE_MAX + 1;
-    }
-    buffer::put(line, len, bytes);
-    len + bytes.len()
-}
-
-// Writes what waits where little room is left, and answers how much waits then.
-fn make_room(out: &[u8], at: usize) -> usize {
-    let room = out.len();
-    if at <= room {
-        if ROOM <= room - at {
-            return at;
-        }
-    }
-    io::write_all(STDOUT_FILENO, word::front(out, at));
-    0
-}
-
-// Plays a line of n bytes.
-fn play_line(world: call::World, line: &[u8], n: usize, out: &mut [u8], at: usize) -> call::Played {
-    if LINE_MAX < n {
-        return call::unknown(world, out, at);
-    }
-    call::run(world, word::front(line, n), out, at)
-}
-
-// Plays the line, which has ended.
-fn end_line(s: State, line: &[u8], out: &mut [u8]) -> State {
-    let old = s.world;
-    let at = make_room(out, s.at);
-    let played = play_line(old, line, s.len, out, at);
-    let world = played.world;
-    State {
-        world,
-        len: 0,
-        at: played.at,
+// Plays the line that has ended, or none.
+fn play_line(world: calls::World, met: u8, line: &[u8]) -> calls::Played {
+    match met {
+        lines::LINE => calls::run(world, line),
+        lines::LAST => calls::run(world, line),
+        _ => calls::Played { world, ok: true },
     }
 }
 
-// Adds bytes to the line.
-fn lengthen(s: State, bytes: &[u8], line: &mut [u8]) -> State {
-    let world = s.world;
-    State {
-        world,
-        len: add(line, s.len, bytes),
-        at: s.at,
+// Whether a line's answer was written, and the input goes on.
+fn goes_on(ok: bool, met: u8) -> bool {
+    if !ok {
+        os::fail(b"replay: standard output");
+        return false;
+    }
+    if met == lines::FAILED {
+        os::fail(b"replay: standard input");
+        return false;
+    }
+    met < lines::LAST
+}
+
+// Takes the input on by a step, and plays the line that it ends.
+fn take_turn(world: calls::World, c: Cursor, input: &mut [u8], line: &mut [u8]) -> Turn {
+    let s = lines::step(c, input, line);
+    let played = play_line(world, s.met, lines::line_of(line, s.len));
+    let after = played.world;
+    Turn {
+        world: after,
+        cursor: s,
+        more: goes_on(played.ok, s.met),
     }
 }
 
-// Plays the line, which these bytes end.
-fn end_with(s: State, bytes: &[u8], line: &mut [u8], out: &mut [u8]) -> State {
-    let whole = lengthen(s, bytes, line);
-    end_line(whole, line, out)
-}
-
-// Plays each line that ends in the input, and keeps the start of the next.
-fn feed(s: State, input: &[u8], line: &mut [u8], out: &mut [u8]) -> State {
-    let mut state = s;
-    let mut i: usize = 0;
-    while i < input.len() {
-        let rest = buffer::rest(input, i);
-        let n = buffer::until(rest, b'\n');
-        if input.len() - i <= n {
-            return lengthen(state, rest, line);
-        }
-        i = i + n + 1;
-        state = end_with(state, word::front(rest, n), line, out);
-    }
-    state
-}
-
-// Writes what waits.
-fn flush(s: State, out: &[u8]) -> State {
-    io::write_all(STDOUT_FILENO, word::front(out, s.at));
-    let world = s.world;
-    State {
-        world,
-        len: s.len,
-        at: 0,
-    }
-}
-
-// Reads once, plays what came, and writes what that printed.
-fn take(s: State, line: &mut [u8], out: &mut [u8]) -> Taken {
-    let mut input = io::large_buffer();
-    let got = libc::read(STDIN_FILENO, &mut input);
-    if got <= 0 {
-        return Taken {
-            state: s,
-            more: false,
-        };
-    }
-    let n = io::count(got, &input);
-    let fed = feed(s, &input[..n], line, out);
-    Taken {
-        state: flush(fed, out),
-        more: true,
-    }
-}
-
-// Plays the whole input. The loop counts its turns down, from a number that no run uses up.
-fn play(line: &mut [u8], out: &mut [u8]) -> State {
-    let mut state = State {
-        world: call::at_start(),
-        len: 0,
-        at: 0,
-    };
+// Plays the whole input. A proved loop has to end, so it counts its turns down from a number that no run uses up.
+fn play(input: &mut [u8], line: &mut [u8]) {
+    let mut world = calls::at_start();
+    let mut c = lines::START;
     let mut turns = u64::MAX;
     while 0 < turns {
-        let t = take(state, line, out);
-        state = t.state;
+        let t = take_turn(world, c, input, line);
         if !t.more {
-            return state;
+            return;
         }
+        world = t.world;
+        c = t.cursor;
         turns -= 1;
     }
-    state
-}
-
-// Plays a last line that has no LF.
-fn finish(s: State, line: &[u8], out: &mut [u8]) {
-    if s.len == 0 {
-        return;
-    }
-    let last = end_line(s, line, out);
-    flush(last, out);
 }
 
 fn main() {
+    let mut input = io::large_buffer();
     let mut line = io::large_buffer();
-    let mut out = io::large_buffer();
-    let state = play(&mut line, &mut out);
-    finish(state, &line, &mut out);
+    play(&mut input, &mut line);
 }

@@ -1,22 +1,19 @@
--- Laws of V1 replies. Assumes nothing.
+-- Laws of V1 replies.
 use mathlib.Core.Path.{_≡_, refl, sym, ap, _∙_}
 use mathlib.Core.Bool.{true, false, and-eq-true-iff, true≢false}
 use mathlib.Core.List.{List, [], _∷_}
 use Prim.Native.Nat.{ℕ, _<_}
 use native.Mathlib.Numerals.{add-one}
 use native.Mathlib.Omega.{arith}
-use borrow.Author.Tests.{eqb-true}
-use lib.Dec.{eqb}
 use lib.ListN.{length, take, drop, length-drop}
 use lib.Seq.{take-all}
 use Rattle.buffer.specs.First.{first}
-use Rattle.buffer.specs.Byte.{at, isDigit, every, numeral}
+use Rattle.buffer.specs.Byte.{at, isDigit, every, numeral, leading}
 use Rattle.buffer.proofs.Rules.{past, stop, each, not-eqb, not-neqb}
 use Rattle.frames.specs.Frame.{isLetter, misshapen, wrongSum, wrongAddress, headV1, frameOf}
 use Rattle.frames.specs.declared.HeadV1.{HeadV1}
 use Rattle.frames.specs.declared.Frame.{Frame}
 use Rattle.frames.specs.declared.Frame.the-variants.{Silent, V1, Length, V2}
-use Rattle.decimal.specs.Form.{leading}
 use Rattle.decimal.proofs.Laws.{numeral-low}
 use Rattle.requests.specs.AskV1.{sixDigits}
 use Rattle.requests.proofs.Laws.{six-told}

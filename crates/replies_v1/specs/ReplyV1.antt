@@ -1,4 +1,4 @@
--- Document 01, "The master's side": any bytes read as the V1 reply to a request, or the first refusal that applies. Assumes nothing.
+-- Document 01, "The master's side": any bytes read as the V1 reply to a request, or the first refusal that applies.
 use mathlib.Core.Bool.{Bool, not, _||_}
 use mathlib.Core.List.{List, [], _∷_}
 use Prim.Native.Nat.{ℕ}
@@ -7,16 +7,17 @@ use lib.ListN.{take, drop}
 use Rattle.buffer.specs.First.{Row, _⇒_, first}
 use Rattle.buffer.specs.Byte.{at, within, sameText, numeral}
 use Rattle.frames.specs.Frame.{isLetter, misshapen, wrongSum, wrongAddress, addressOf, dataFrom}
-use Rattle.frame_writer.specs.Error.{errorBytes}
-use Rattle.frame_writer.specs.declared.ErrorText.{ErrorText}
-use Rattle.frame_writer.specs.declared.ErrorText.the-variants.{Logic, NoDef, Range, Error1}
-use Rattle.settings.specs.Limits.{standard}
-use Rattle.settings.specs.declared.PressureUnit.the-variants.{Mbar, Torr, HPa}
+use Rattle.error_texts.specs.Texts.{errorBytes}
+use Rattle.error_texts.specs.declared.ErrorText.{ErrorText}
+use Rattle.error_texts.specs.declared.ErrorText.the-variants.{Logic, NoDef, Range, Error1}
+use Rattle.settings.specs.Limits.{isFactor}
+use Rattle.settings.specs.Units.{unitNamed, unitCode}
+use Rattle.settings.specs.declared.PressureUnit.{PressureUnit}
 use Rattle.requests.specs.AskV1.{sixDigits}
 use Rattle.requests.specs.declared.RequestV1.{RequestV1}
 use Rattle.requests.specs.declared.RequestV1.the-variants.{Measure, ReadFactor, Unlock, SetFactor, ReadUnit, SetUnit}
-use Rattle.request_texts.specs.RequestText.{unitCode, letterV1, dataV1}
-use Rattle.replies_v1.specs.declared.ReplyV1.the-variants.{Reads, BelowRange, AboveRange, Factor, Unit, Done, Error}
+use Rattle.request_texts.specs.RequestText.{letterV1, dataV1}
+use Rattle.replies_v1.specs.declared.ReplyV1.the-variants.{Reads, UnderRange, OverRange, Factor, Unit, Done, Error}
 use Rattle.replies_v1.specs.declared.ReadV1.{ReadV1}
 use Rattle.replies_v1.specs.declared.ReadV1.the-variants.{Read, Refused}
 
@@ -44,8 +45,8 @@ unfoldable pub measureV1 : List ℕ → ReadV1
 measureV1 d =
     first
     (sameText d (49 ∷ []) ⇒ Read (Error Error1)
-    ∷ sameText d (48 ∷ 48 ∷ 48 ∷ 48 ∷ 48 ∷ 48 ∷ []) ⇒ Read BelowRange
-    ∷ sameText d (57 ∷ 57 ∷ 57 ∷ 57 ∷ 57 ∷ 57 ∷ []) ⇒ Read AboveRange
+    ∷ sameText d (48 ∷ 48 ∷ 48 ∷ 48 ∷ 48 ∷ 48 ∷ []) ⇒ Read UnderRange
+    ∷ sameText d (57 ∷ 57 ∷ 57 ∷ 57 ∷ 57 ∷ 57 ∷ []) ⇒ Read OverRange
     ∷ [])
     (pressureV1 d)
 
@@ -54,19 +55,13 @@ unfoldable pub factorV1 : List ℕ → ReadV1
 factorV1 d =
     first
     (not (sixDigits d) ⇒ Refused 10
-    ∷ not (within (standard .factorLow) (standard .factorHigh) (numeral d)) ⇒ Refused 11
+    ∷ not (isFactor (numeral d)) ⇒ Refused 11
     ∷ [])
     (Read (Factor (numeral d)))
 
 -- "000000 mbar, 000001 Torr, 000002 hPa, else RANGE"
 unfoldable pub unitAt : ℕ → ReadV1
-unitAt n =
-    first
-    (eqb n 0 ⇒ Read (Unit Mbar)
-    ∷ eqb n 1 ⇒ Read (Unit Torr)
-    ∷ eqb n 2 ⇒ Read (Unit HPa)
-    ∷ [])
-    (Refused 11)
+unitAt n = unitNamed (λ (u : PressureUnit). Read (Unit u)) (Refused 11) n
 
 unfoldable pub unitV1 : List ℕ → ReadV1
 unitV1 d = first (not (sixDigits d) ⇒ Refused 10 ∷ []) (unitAt (numeral d))
@@ -122,8 +117,8 @@ readV1 address r s = first (rowsV1 address r s) (valueV1 r (dataFrom 4 s))
 unfoldable pub readShownV1 : ReadV1 → List ℕ
 readShownV1 (Refused k) = k ∷ []
 readShownV1 (Read (Reads mantissa exponent)) = 0 ∷ 1 ∷ mantissa ∷ exponent ∷ []
-readShownV1 (Read BelowRange) = 0 ∷ 2 ∷ []
-readShownV1 (Read AboveRange) = 0 ∷ 3 ∷ []
+readShownV1 (Read UnderRange) = 0 ∷ 2 ∷ []
+readShownV1 (Read OverRange) = 0 ∷ 3 ∷ []
 readShownV1 (Read (Factor n)) = 0 ∷ 4 ∷ n ∷ []
 readShownV1 (Read (Unit u)) = 0 ∷ 5 ∷ unitCode u ∷ []
 readShownV1 (Read Done) = 0 ∷ 6 ∷ []

@@ -3,18 +3,18 @@ ghost use mathlib.Core.Path.{_≡_};
 ghost use Rattle.buffer.specs.Byte.{at};
 ghost use Rattle.frames.specs.Frame.{isLetter};
 ghost use Rattle.replies_v1.specs.ReplyV1.{errorAt, pressureV1, measureV1, factorV1, unitAt, unitV1, echoV1, valueV1, readV1};
-use frame_writer::ErrorText;
+use error_texts::ErrorText;
 use requests::RequestV1;
 
 // A decoded reply. Reads carries the mantissa and the exponent plus 20, Factor hundredths.
 pub enum ReplyV1 {
     Reads(u16, u8),
-    BelowRange,
-    AboveRange,
+    UnderRange,
+    OverRange,
     Factor(u16),
     Unit(settings::PressureUnit),
     Done,
-    Error(frame_writer::ErrorText),
+    Error(error_texts::ErrorText),
 }
 
 // Bytes as the reply to a request: a reply, or refused with this number.
@@ -37,7 +37,7 @@ fn has_letter(s: &[u8]) -> bool
 fn is_error(s: &[u8], start: usize, e: ErrorText) -> bool
     ensures { λ r. ⌜ r ≡ errorAt start e (now (s .entry)) ⌝ }
 {
-    frame_writer::is_error_text(frames::data_from(s, start), e)
+    error_texts::is_error_text(frames::data_from(s, start), e)
 }
 
 // A pressure: four digits of mantissa, and two of the exponent plus 20.
@@ -71,11 +71,11 @@ fn read_measure(d: &[u8]) -> ReadV1
     }
     let below = [b'0', b'0', b'0', b'0', b'0', b'0'];
     if buffer::is_same(d, &below) {
-        return ReadV1::Read(ReplyV1::BelowRange);
+        return ReadV1::Read(ReplyV1::UnderRange);
     }
     let above = [b'9', b'9', b'9', b'9', b'9', b'9'];
     if buffer::is_same(d, &above) {
-        return ReadV1::Read(ReplyV1::AboveRange);
+        return ReadV1::Read(ReplyV1::OverRange);
     }
     read_pressure(d)
 }
@@ -88,10 +88,7 @@ fn read_factor(d: &[u8]) -> ReadV1
         return ReadV1::Refused(10);
     }
     let n = buffer::numeral_of(d);
-    if n < settings::Settings::FACTOR_MIN as u32 {
-        return ReadV1::Refused(11);
-    }
-    if (settings::Settings::FACTOR_MAX as u32) < n {
+    if !settings::Settings::is_factor(n) {
         return ReadV1::Refused(11);
     }
     ReadV1::Read(ReplyV1::Factor(n as u16))
@@ -101,11 +98,9 @@ fn read_factor(d: &[u8]) -> ReadV1
 fn unit_at(n: u32) -> ReadV1
     ensures { λ r. ⌜ r ≡ unitAt n ⌝ }
 {
-    match n {
-        0 => ReadV1::Read(ReplyV1::Unit(settings::PressureUnit::Mbar)),
-        1 => ReadV1::Read(ReplyV1::Unit(settings::PressureUnit::Torr)),
-        2 => ReadV1::Read(ReplyV1::Unit(settings::PressureUnit::HPa)),
-        _ => ReadV1::Refused(11),
+    match settings::unit_named(n) {
+        settings::NamedUnit::Unit(u) => ReadV1::Read(ReplyV1::Unit(u)),
+        settings::NamedUnit::None => ReadV1::Refused(11),
     }
 }
 
@@ -171,7 +166,7 @@ pub fn read_reply_v1(address: u16, request: RequestV1, s: &[u8]) -> ReadV1
             if is_error(s, 4, ErrorText::Range) {
                 return ReadV1::Read(ReplyV1::Error(ErrorText::Range));
             }
-            read_value(request, frames::data_from(s, 4))
+            read_value(request, frames::data_v1(s))
         }
         frames::Frame::Length(_) => ReadV1::Refused(2),
         frames::Frame::V2(_) => ReadV1::Refused(2),

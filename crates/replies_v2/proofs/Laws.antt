@@ -1,4 +1,4 @@
--- Laws of frames as replies, and of the list beside a reply. Assumes nothing.
+-- Laws of frames as replies, and of the list beside a reply.
 use mathlib.Core.Path.{_≡_, refl, sym, ap, _∙_}
 use mathlib.Core.Bool.{Bool, true, false, not}
 use mathlib.Core.List.{List, []}
@@ -13,7 +13,7 @@ use Rattle.frames.specs.Frame.{isLetter, dataFrom, misshapen, wrongSum, wrongAd
 use Rattle.frames.specs.declared.HeadV2.{HeadV2}
 use Rattle.frames.specs.declared.Frame.{Frame}
 use Rattle.frames.specs.declared.Frame.the-variants.{Silent, V1, Length, V2}
-use Rattle.frame_writer.specs.declared.ErrorText.{ErrorText}
+use Rattle.error_texts.specs.declared.ErrorText.{ErrorText}
 use Rattle.sources.specs.Source.{listOf, Counted}
 use Rattle.settings.specs.declared.Key.the-variants.{DA, DU, C1, CM, CC, FC, ST, SM}
 use Rattle.forms.specs.Judged.{verdictOf, ifSet, listIn}
@@ -25,7 +25,7 @@ use Rattle.requests.specs.declared.RequestV2.{RequestV2}
 use Rattle.requests.specs.declared.RequestV2.the-variants as request
 use Rattle.replies_v2_values.specs.Value.{heldReply, settingReply, valueReply, valueList}
 use Rattle.replies_v2.specs.ReplyV2.{notV2, errorReply, dataReply, readV2, beside, dataList, readList, bodyReply, ReadsV2, DataReads, BodyReads}
-use Rattle.replies_v2_values.specs.declared.ReplyV2.the-variants.{Measured, BelowRange, AboveRange, Degrees, FilamentNumber, StatusNumber, Holds, Done, Error}
+use Rattle.replies_v2_values.specs.declared.ReplyV2.the-variants.{Measured, UnderRange, OverRange, Degrees, FilamentNumber, StatusNumber, Holds, Done, Error}
 use Rattle.replies_v2_values.specs.declared.ReadV2.{ReadV2}
 use Rattle.replies_v2_values.specs.declared.ReadV2.the-variants.{Read, Refused}
 use Rattle.replies_v2_values.specs.declared.AnswerV2.{AnswerV2}
@@ -71,8 +71,8 @@ no-frame address r s e = stop _ _ _ _ (rw e) refl
 beside-none : (x : ReadV2) → beside x [] ≡ []
 unfolding beside
 beside-none (Read (Measured n)) = refl
-beside-none (Read BelowRange) = refl
-beside-none (Read AboveRange) = refl
+beside-none (Read UnderRange) = refl
+beside-none (Read OverRange) = refl
 beside-none (Read (Degrees negative h)) = refl
 beside-none (Read (FilamentNumber d)) = refl
 beside-none (Read (StatusNumber d)) = refl

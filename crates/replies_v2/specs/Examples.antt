@@ -1,35 +1,16 @@
--- Document 01, "The master's side": worked cases of the V2 reply reader, their answers taken from the paper. Assumes nothing.
-use mathlib.Core.Path.{_≡_, refl}
-use mathlib.Core.Bool.{Bool, true, _&&_}
+-- Document 01, "The master's side": worked cases of the V2 reply reader, their answers taken from the paper.
+use mathlib.Core.Bool.{Bool, _&&_}
 use mathlib.Core.List.{List, [], _∷_, _++_}
 use Prim.Native.Nat.{ℕ}
 use Prim.Native.String.{String}
-use Rattle.buffer.specs.First.{pick}
-use Rattle.buffer.specs.Byte.{within, every, sameText, untilOf, numeralFrom}
+use Rattle.buffer.specs.Byte.{sameText}
 use Rattle.buffer.specs.Quoted.{bytes}
-use Rattle.frames.specs.Checksum.{sumOf, checksumOf}
-use Rattle.frames.specs.Frame.{isLetter, lengthFits, misshapen, wrongSum, wrongAddress, wrongLength, headV2}
-use Rattle.frame_writer.specs.Error.{errorBytes}
-use Rattle.decimal.specs.Exact.{units, sizeOf, normalOf}
-use Rattle.decimal.specs.Form.{leading, startsWith, powerOf, exponentOf, fractionOf, unsignedOf, scanOf, answerOf, numberOf}
-use Rattle.decimal.specs.Number.{plus, minus, belowOf, countedOf, hundredthsOf}
-use Rattle.decimal_text.specs.Written.{signText, trimmed, pointed, exponentText, writtenOf, wholeText, twoDecimals}
-use Rattle.sources.specs.Source.{sourceText, isSource, findSource, sourceOf, listOf, listText}
-use Rattle.sources.specs.Entries.{onto, parts, sourceTexts, entriesOf, opens, entriesNumber, entriesList}
-use Rattle.settings.specs.Settings.{putOf}
-use Rattle.settings.specs.Sent.{unitText, transitionText, streamText, readText}
 use Rattle.settings.specs.declared.Key.the-variants.{DA, DU, C1, CM, ST, SM}
 use Rattle.settings.specs.declared.Setting.the-variants.{Address, Factor}
-use Rattle.readings.specs.Bench.{takes}
-use Rattle.forms.specs.Forms.{addressData, unitData, factorIn, factorOf, digitData, digitOf, limitedOf, directOf, betweenOf, endsOf, transitionOf, transitionData, idleList, knownMode, streamOf, streamData}
-use Rattle.forms.specs.Judged.{verdictOf, ifSet, listIn}
-use Rattle.requests.specs.Command.{commandText}
 use Rattle.requests.specs.declared.Command.the-variants.{MV, T2, FN, FS, Of}
 use Rattle.requests.specs.declared.RequestV2.{RequestV2}
 use Rattle.requests.specs.declared.RequestV2.the-variants as ask
-use Rattle.request_texts.specs.RequestText.{accessOf, commandIn, dataV2}
-use Rattle.replies_v2_values.specs.Value.{measuredReply, pressureReply, degreesReply, temperatureReply, filamentReply, statusReply, heldReply, bothEnds, transitionReply, settingReply, valueReply, valueList}
-use Rattle.replies_v2.specs.ReplyV2.{notV2, otherAccess, otherCommand, mismatched, errorReply, doneReply, dataReply, bodyReply, readV2, beside, dataList, readList, readShownV2}
+use Rattle.replies_v2.specs.ReplyV2.{readV2, readList, readShownV2}
 
 -- the address and the request that the reader is told, the bytes, what they are read as, and the list beside it
 pub record Case : Type 0 where
@@ -122,7 +103,3 @@ cases =
 
 abbrev pub right : Case → Bool
 right c = sameText (readShownV2 (readV2 (c .address) (c .request) (c .frame))) (c .shown) && sameText (readList (c .address) (c .request) (c .frame)) (c .list)
-
-pub all-read : every right cases ≡ true
-unfolding bytes pick within every sameText untilOf numeralFrom sumOf checksumOf isLetter lengthFits misshapen wrongSum wrongAddress wrongLength headV2 errorBytes units sizeOf normalOf leading startsWith powerOf exponentOf fractionOf unsignedOf scanOf answerOf numberOf plus minus belowOf countedOf hundredthsOf signText trimmed pointed exponentText writtenOf wholeText twoDecimals sourceText isSource findSource sourceOf listOf listText onto parts sourceTexts entriesOf opens entriesNumber entriesList putOf unitText transitionText streamText readText takes addressData unitData factorIn factorOf digitData digitOf limitedOf directOf betweenOf endsOf transitionOf transitionData idleList knownMode streamOf streamData verdictOf ifSet listIn commandText accessOf commandIn dataV2 measuredReply pressureReply degreesReply temperatureReply filamentReply statusReply heldReply bothEnds transitionReply settingReply valueReply valueList notV2 otherAccess otherCommand mismatched errorReply doneReply dataReply bodyReply readV2 beside dataList readList readShownV2
-all-read = refl

@@ -1,4 +1,4 @@
--- Document 01, "The master's side": any bytes read as the reply to a V2 request, or the first refusal that applies. Assumes nothing.
+-- Document 01, "The master's side": any bytes read as the reply to a V2 request, or the first refusal that applies.
 use mathlib.Core.Path.{_≡_}
 use mathlib.Core.Bool.{Bool, not, _&&_, _||_}
 use mathlib.Core.List.{List, [], _∷_, _++_, map}
@@ -10,16 +10,16 @@ use Rattle.buffer.specs.Byte.{at, isDigit, sameText}
 use Rattle.decimal_text.specs.Written.{writtenOf, twoDecimals}
 use Rattle.frames.specs.Frame.{dataFrom, misshapen, wrongSum, wrongAddress, wrongLength, headV2}
 use Rattle.frames.specs.declared.HeadV2.{HeadV2}
-use Rattle.frame_writer.specs.Error.{errorBytes}
-use Rattle.frame_writer.specs.declared.ErrorText.{ErrorText}
-use Rattle.frame_writer.specs.declared.ErrorText.the-variants as error
+use Rattle.error_texts.specs.Texts.{errorBytes}
+use Rattle.error_texts.specs.declared.ErrorText.{ErrorText}
+use Rattle.error_texts.specs.declared.ErrorText.the-variants as error
 use Rattle.sources.specs.Source.{listOf, Counted}
 use Rattle.requests.specs.Command.{commandText}
 use Rattle.requests.specs.declared.RequestV2.{RequestV2}
 use Rattle.requests.specs.declared.RequestV2.the-variants as request
 use Rattle.request_texts.specs.RequestText.{accessOf, commandIn, dataV2}
 use Rattle.replies_v2_values.specs.Value.{valueReply, valueList}
-use Rattle.replies_v2_values.specs.declared.ReplyV2.the-variants.{Measured, BelowRange, AboveRange, Degrees, FilamentNumber, StatusNumber, Holds, Done, Error}
+use Rattle.replies_v2_values.specs.declared.ReplyV2.the-variants.{Measured, UnderRange, OverRange, Degrees, FilamentNumber, StatusNumber, Holds, Done, Error}
 use Rattle.replies_v2_values.specs.declared.ReadV2.{ReadV2}
 use Rattle.replies_v2_values.specs.declared.ReadV2.the-variants.{Read, Refused}
 use Rattle.replies_v2_values.specs.declared.AnswerV2.{AnswerV2}
@@ -86,8 +86,8 @@ readV2 address r s =
 -- the sources of a read of SM stand beside its accepted value, and beside nothing else
 unfoldable pub beside : ReadV2 → List ℕ → List ℕ
 beside (Read (Measured n)) list = []
-beside (Read BelowRange) list = []
-beside (Read AboveRange) list = []
+beside (Read UnderRange) list = []
+beside (Read OverRange) list = []
 beside (Read (Degrees negative h)) list = []
 beside (Read (FilamentNumber d)) list = []
 beside (Read (StatusNumber d)) list = []
@@ -128,8 +128,8 @@ pub record BodyReads (r : RequestV2) (h : HeadV2) (s : List ℕ) (a : AnswerV2) 
 unfoldable pub readShownV2 : ReadV2 → List ℕ
 readShownV2 (Refused k) = k ∷ []
 readShownV2 (Read (Measured n)) = 0 ∷ 1 ∷ writtenOf n
-readShownV2 (Read BelowRange) = 0 ∷ 2 ∷ []
-readShownV2 (Read AboveRange) = 0 ∷ 3 ∷ []
+readShownV2 (Read UnderRange) = 0 ∷ 2 ∷ []
+readShownV2 (Read OverRange) = 0 ∷ 3 ∷ []
 readShownV2 (Read (Degrees negative h)) = 0 ∷ 4 ∷ twoDecimals negative h
 readShownV2 (Read (FilamentNumber d)) = 0 ∷ 5 ∷ d ∷ []
 readShownV2 (Read (StatusNumber d)) = 0 ∷ 6 ∷ d ∷ []

@@ -1,7 +1,7 @@
 // Replies of the text gauge in V2, as the master reads them (document 01, "The master's side").
 ghost use mathlib.Core.Path.{_≡_};
 ghost use Rattle.buffer.specs.Byte.{at, isDigit, sameText};
-ghost use Rattle.frame_writer.specs.Error.{errorBytes};
+ghost use Rattle.error_texts.specs.Texts.{errorBytes};
 ghost use Rattle.replies_v2.specs.ReplyV2.{otherAccess, otherCommand, mismatched, errorReply, doneReply, DataReads, BodyReads, ReadsV2};
 use replies_v2_values::AnswerV2;
 use replies_v2_values::ReadV2;
@@ -32,23 +32,23 @@ fn read_data(request: RequestV2, s: &[u8]) -> AnswerV2
 fn read_error(s: &[u8]) -> ReadV2
     ensures { λ r. ⌜ r ≡ errorReply (now (s .entry)) ⌝ }
 {
-    if frame_writer::is_error_text(s, frame_writer::ErrorText::Length) {
-        return ReadV2::Read(ReplyV2::Error(frame_writer::ErrorText::Length));
+    if error_texts::is_error_text(s, error_texts::ErrorText::Length) {
+        return ReadV2::Read(ReplyV2::Error(error_texts::ErrorText::Length));
     }
-    if frame_writer::is_error_text(s, frame_writer::ErrorText::Logic) {
-        return ReadV2::Read(ReplyV2::Error(frame_writer::ErrorText::Logic));
+    if error_texts::is_error_text(s, error_texts::ErrorText::Logic) {
+        return ReadV2::Read(ReplyV2::Error(error_texts::ErrorText::Logic));
     }
-    if frame_writer::is_error_text(s, frame_writer::ErrorText::NoDef) {
-        return ReadV2::Read(ReplyV2::Error(frame_writer::ErrorText::NoDef));
+    if error_texts::is_error_text(s, error_texts::ErrorText::NoDef) {
+        return ReadV2::Read(ReplyV2::Error(error_texts::ErrorText::NoDef));
     }
-    if frame_writer::is_error_text(s, frame_writer::ErrorText::Syntax) {
-        return ReadV2::Read(ReplyV2::Error(frame_writer::ErrorText::Syntax));
+    if error_texts::is_error_text(s, error_texts::ErrorText::Syntax) {
+        return ReadV2::Read(ReplyV2::Error(error_texts::ErrorText::Syntax));
     }
-    if frame_writer::is_error_text(s, frame_writer::ErrorText::Range) {
-        return ReadV2::Read(ReplyV2::Error(frame_writer::ErrorText::Range));
+    if error_texts::is_error_text(s, error_texts::ErrorText::Range) {
+        return ReadV2::Read(ReplyV2::Error(error_texts::ErrorText::Range));
     }
-    if frame_writer::is_error_text(s, frame_writer::ErrorText::Error1) {
-        return ReadV2::Read(ReplyV2::Error(frame_writer::ErrorText::Error1));
+    if error_texts::is_error_text(s, error_texts::ErrorText::Error1) {
+        return ReadV2::Read(ReplyV2::Error(error_texts::ErrorText::Error1));
     }
     ReadV2::Refused(10)
 }
@@ -127,7 +127,7 @@ pub fn read_reply_v2(address: u16, request: RequestV2, s: &[u8]) -> AnswerV2
             if head.address != address {
                 return replies_v2_values::plain(ReadV2::Refused(5));
             }
-            read_body(request, head, frames::data_from(s, 8))
+            read_body(request, head, frames::data_v2(s))
         }
     }
 }

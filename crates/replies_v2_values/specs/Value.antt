@@ -1,7 +1,7 @@
 -- The data of a reply to a read: its value by the column "Data", 10 SYNTAX where they are not of the command's form, 11 RANGE where a number
--- lies outside the limits of the table or the bench. Assumes nothing.
+-- lies outside the limits of the table or the bench.
 use mathlib.Core.Path.{_≡_}
-use mathlib.Core.Bool.{Bool, cond, not}
+use mathlib.Core.Bool.{Bool, not}
 use mathlib.Core.List.{List, [], _∷_}
 use Prim.Native.Nat.{ℕ, min}
 use lib.Dec.{ltb}
@@ -18,74 +18,76 @@ use Rattle.settings.specs.declared.Key.{Key}
 use Rattle.settings.specs.declared.Key.the-variants.{DA, DU, C1, CM, CC, FC, ST, SM}
 use Rattle.settings.specs.declared.Setting.the-variants.{Switch}
 use Rattle.settings.specs.declared.Transition.the-variants.{Between}
-use Rattle.readings.specs.Bench.{takes}
+use Rattle.settings.specs.Limits.{benchLimits}
+use Rattle.readings.specs.Reading.{underText, overText}
+use Rattle.readings.specs.Bench.{takes, outsideDegrees}
 use Rattle.forms.specs.Forms.{digitData, directOf, endsOf}
 use Rattle.forms.specs.Judged.{verdictOf, listIn}
 use Rattle.forms.specs.declared.Digit.{Digit}
-use Rattle.forms.specs.declared.Digit.the-variants.{Is, Isnt}
+use Rattle.forms.specs.declared.Digit.the-variants.{Is}
 use Rattle.forms.specs.declared.Limited.{Limited}
-use Rattle.forms.specs.declared.Limited.the-variants.{Fine, Bad}
+use Rattle.forms.specs.declared.Limited.the-variants.{Fine}
 use Rattle.forms.specs.declared.Ends.{Ends}
 use Rattle.forms.specs.declared.Ends.the-variants.{None, One, Two}
 use Rattle.forms.specs.declared.Verdict.{Verdict}
 use Rattle.forms.specs.declared.Verdict.the-variants as verdict
 use Rattle.requests.specs.declared.Command.{Command}
 use Rattle.requests.specs.declared.Command.the-variants.{MV, T2, FN, FS, Of}
-use Rattle.replies_v2_values.specs.declared.ReplyV2.the-variants.{Measured, BelowRange, AboveRange, Degrees, FilamentNumber, StatusNumber, Holds}
+use Rattle.replies_v2_values.specs.declared.ReplyV2.the-variants.{Measured, UnderRange, OverRange, Degrees, FilamentNumber, StatusNumber, Holds}
 use Rattle.replies_v2_values.specs.declared.ReadV2.{ReadV2}
-use Rattle.replies_v2_values.specs.declared.ReadV2.the-variants.{Read, Refused}
+use Rattle.replies_v2_values.specs.declared.ReadV2.the-variants.{Read}
 use Rattle.replies_v2_values.specs.declared.AnswerV2.{AnswerV2}
 
 -- MV: "reading of source 0", which the bench sets "above zero", else 11
 unfoldable pub measuredReply : Parsed → ReadV2
-measuredReply Syntax = Refused (parsedNumber Syntax)
-measuredReply Range = Refused (parsedNumber Range)
-measuredReply (Value n) = first (not (takes 0 n) ⇒ Refused 11 ∷ []) (Read (Measured n))
+measuredReply Syntax = ReadV2.Refused (parsedNumber Syntax)
+measuredReply Range = ReadV2.Refused (parsedNumber Range)
+measuredReply (Value n) = first (not (takes 0 n) ⇒ ReadV2.Refused 11 ∷ []) (Read (Measured n))
 
 -- "or `UR`, `OR`"
 unfoldable pub pressureReply : List ℕ → ReadV2
 pressureReply s =
     first
-    (sameText s (85 ∷ 82 ∷ []) ⇒ Read BelowRange
-    ∷ sameText s (79 ∷ 82 ∷ []) ⇒ Read AboveRange
+    (sameText s underText ⇒ Read UnderRange
+    ∷ sameText s overText ⇒ Read OverRange
     ∷ [])
     (measuredReply (numberOf s))
 
 -- T2: "temperatures whole hundredths from -40.00 to 125.00", else 11
 unfoldable pub degreesReply : Bool → Hundredths → ReadV2
-degreesReply negative (Whole h) = first (ltb (cond negative 4000 12500) h ⇒ Refused 11 ∷ []) (Read (Degrees negative h))
-degreesReply negative Other = Refused 11
+degreesReply negative (Whole h) = first (outsideDegrees negative h ⇒ ReadV2.Refused 11 ∷ []) (Read (Degrees negative h))
+degreesReply negative Other = ReadV2.Refused 11
 
 unfoldable pub temperatureReply : Parsed → ReadV2
-temperatureReply Syntax = Refused (parsedNumber Syntax)
-temperatureReply Range = Refused (parsedNumber Range)
+temperatureReply Syntax = ReadV2.Refused (parsedNumber Syntax)
+temperatureReply Range = ReadV2.Refused (parsedNumber Range)
 temperatureReply (Value n) = degreesReply (n .negative) (hundredthsOf n)
 
 -- FN: "`1`-`2`"
 unfoldable pub filamentReply : Digit → ReadV2
-filamentReply (Is d) = first (ltb d 1 ⇒ Refused 11 ∷ []) (Read (FilamentNumber d))
-filamentReply (Isnt k) = Refused k
+filamentReply (Is d) = first (ltb d (benchLimits .filamentLow) ⇒ ReadV2.Refused 11 ∷ []) (Read (FilamentNumber d))
+filamentReply (Digit.Refused k) = ReadV2.Refused k
 
 -- FS: "`0`-`3`"
 unfoldable pub statusReply : Digit → ReadV2
 statusReply (Is d) = Read (StatusNumber d)
-statusReply (Isnt k) = Refused k
+statusReply (Digit.Refused k) = ReadV2.Refused k
 
 -- a setting: the value that a write with these data would set
 unfoldable pub heldReply : Verdict → ReadV2
 heldReply (verdict.Set x) = Read (Holds x)
-heldReply (verdict.Refused k) = Refused k
+heldReply (verdict.Refused k) = ReadV2.Refused k
 
 -- ST: "each 1 to 20", in any order: this reader has no 12. SYNTAX of either number comes before RANGE of the other
 unfoldable pub bothEnds : Limited → Limited → ReadV2
 bothEnds (Fine low) (Fine high) = Read (Holds (Switch (Between low high)))
-bothEnds (Fine low) (Bad k) = Refused k
-bothEnds (Bad j) (Fine high) = Refused j
-bothEnds (Bad j) (Bad k) = Refused (min j k)
+bothEnds (Fine low) (Limited.Refused k) = ReadV2.Refused k
+bothEnds (Limited.Refused j) (Fine high) = ReadV2.Refused j
+bothEnds (Limited.Refused j) (Limited.Refused k) = ReadV2.Refused (min j k)
 
 -- "`D` number, or `F` number `T` number"
 unfoldable pub transitionReply : Ends → ReadV2
-transitionReply None = Refused 10
+transitionReply None = ReadV2.Refused 10
 transitionReply (One n) = heldReply (directOf n)
 transitionReply (Two low high) = bothEnds low high
 
@@ -103,8 +105,8 @@ settingReply SM s = heldReply (verdictOf SM s)
 unfoldable pub valueReply : Command → List ℕ → ReadV2
 valueReply MV s = pressureReply s
 valueReply T2 s = temperatureReply (numberOf s)
-valueReply FN s = filamentReply (digitData 2 s)
-valueReply FS s = statusReply (digitData 3 s)
+valueReply FN s = filamentReply (digitData (benchLimits .filamentHigh) s)
+valueReply FS s = statusReply (digitData (benchLimits .statusHigh) s)
 valueReply (Of key) s = settingReply key s
 
 -- the sources that an accepted read of SM lists; none otherwise

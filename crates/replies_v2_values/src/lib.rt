@@ -11,8 +11,8 @@ use requests::Command;
 pub enum ReplyV2 {
     // MV: a number, `UR` or `OR`
     Measured(decimal::Number),
-    BelowRange,
-    AboveRange,
+    UnderRange,
+    OverRange,
     // T2: whether it is below zero, and its size in hundredths of a degree
     Degrees(bool, u16),
     // FN
@@ -24,7 +24,7 @@ pub enum ReplyV2 {
     // a write or a restore was done
     Done,
     // the request was refused with this text
-    Error(frame_writer::ErrorText),
+    Error(error_texts::ErrorText),
 }
 
 // Bytes as the reply to a request: a reply, or refused with this number.
@@ -77,13 +77,13 @@ fn measured_in(p: decimal::Parsed) -> ReadV2
 fn read_pressure(s: &[u8]) -> ReadV2
     ensures { λ r. ⌜ r ≡ pressureReply (now (s .entry)) ⌝ }
 {
-    let under = [b'U', b'R'];
+    let under = readings::Pressure::UNDER_RANGE;
     if buffer::is_same(s, &under) {
-        return ReadV2::Read(ReplyV2::BelowRange);
+        return ReadV2::Read(ReplyV2::UnderRange);
     }
-    let over = [b'O', b'R'];
+    let over = readings::Pressure::OVER_RANGE;
     if buffer::is_same(s, &over) {
-        return ReadV2::Read(ReplyV2::AboveRange);
+        return ReadV2::Read(ReplyV2::OverRange);
     }
     measured_in(decimal::read_number(s))
 }
@@ -95,12 +95,7 @@ fn degrees_in(negative: bool, h: decimal::Hundredths) -> ReadV2
     let decimal::Hundredths::Whole(size) = h else {
         return ReadV2::Refused(11);
     };
-    let most = if negative {
-        readings::Readings::COLDEST
-    } else {
-        readings::Readings::HOTTEST
-    };
-    if most < size {
+    if readings::Readings::is_outside(negative, size) {
         return ReadV2::Refused(11);
     }
     ReadV2::Read(ReplyV2::Degrees(negative, size as u16))
@@ -122,9 +117,9 @@ fn filament_in(digit: forms::Digit) -> ReadV2
     ensures { λ r. ⌜ r ≡ filamentReply digit ⌝ }
 {
     match digit {
-        forms::Digit::Isnt(k) => ReadV2::Refused(k),
+        forms::Digit::Refused(k) => ReadV2::Refused(k),
         forms::Digit::Is(d) => {
-            if d < 1 {
+            if d < readings::Readings::FILAMENT_MIN {
                 return ReadV2::Refused(11);
             }
             ReadV2::Read(ReplyV2::FilamentNumber(d))
@@ -137,7 +132,7 @@ fn status_in(digit: forms::Digit) -> ReadV2
     ensures { λ r. ⌜ r ≡ statusReply digit ⌝ }
 {
     match digit {
-        forms::Digit::Isnt(k) => ReadV2::Refused(k),
+        forms::Digit::Refused(k) => ReadV2::Refused(k),
         forms::Digit::Is(d) => ReadV2::Read(ReplyV2::StatusNumber(d)),
     }
 }
@@ -198,7 +193,7 @@ pub fn read_value(command: Command, s: &[u8]) -> AnswerV2
     match command {
         Command::MV => plain(read_pressure(s)),
         Command::T2 => plain(temperature_in(decimal::read_number(s))),
-        Command::FN => plain(filament_in(forms::judge_digit(s, 2))),
+        Command::FN => plain(filament_in(forms::judge_digit(s, readings::Readings::FILAMENT_MAX))),
         Command::FS => plain(status_in(forms::judge_digit(s, readings::Readings::STATUS_MAX))),
         Command::Of(key) => read_setting(key, s),
     }

@@ -1,4 +1,4 @@
--- The kind of a V1 reply, and its place among the cases. Assumes nothing.
+-- The kind of a V1 reply, and its place among the cases.
 use mathlib.Core.Path.{_≡_, refl}
 use mathlib.Core.Bool.{false, not}
 use mathlib.Core.List.{List}
@@ -10,7 +10,7 @@ use mir.Val.{hasKey}
 use types.Run.{OneOf, miss}
 use denote.Enum.Declared.{tagOf}
 use Rattle.replies_v1.specs.declared.ReplyV1.{ReplyV1}
-use Rattle.replies_v1.specs.declared.ReplyV1.the-variants.{Reads, BelowRange, AboveRange, Factor, Unit, Done, Error}
+use Rattle.replies_v1.specs.declared.ReplyV1.the-variants.{Reads, UnderRange, OverRange, Factor, Unit, Done, Error}
 use Rattle.replies_v1.proofs.ReplyV1.{the-type}
 use Rattle.replies_v1.specs.ReplyV1.{readShownV1}
 use Rattle.reply_kinds_v1.specs.Kind.{kindOf}
@@ -18,8 +18,8 @@ use Rattle.reply_kinds_v1.specs.Kind.{kindOf}
 placed : (r : ReplyV1) → kindOf r ≡ tagOf the-type r + 1
 unfolding readShownV1
 placed (Reads mantissa exponent) = refl
-placed BelowRange = refl
-placed AboveRange = refl
+placed UnderRange = refl
+placed OverRange = refl
 placed (Factor n) = refl
 placed (Unit u) = refl
 placed Done = refl

@@ -36,8 +36,8 @@ fn no_pressure(reply: ReplyV1) -> u8
     ensures { λ k. ⌜ k ≡ noPressure reply ⌝ }
 {
     match reply {
-        ReplyV1::BelowRange => 11,
-        ReplyV1::AboveRange => 11,
+        ReplyV1::UnderRange => 11,
+        ReplyV1::OverRange => 11,
         _ => no_value(reply),
     }
 }

@@ -1,4 +1,4 @@
--- The kind of a V2 reply, and its place among the cases. Assumes nothing.
+-- The kind of a V2 reply, and its place among the cases.
 use mathlib.Core.Path.{_≡_, refl}
 use mathlib.Core.Bool.{false, not}
 use mathlib.Core.List.{List}
@@ -10,7 +10,7 @@ use mir.Val.{hasKey}
 use types.Run.{OneOf, miss}
 use denote.Enum.Declared.{tagOf}
 use Rattle.replies_v2_values.specs.declared.ReplyV2.{ReplyV2}
-use Rattle.replies_v2_values.specs.declared.ReplyV2.the-variants.{Measured, BelowRange, AboveRange, Degrees, FilamentNumber, StatusNumber, Holds, Done, Error}
+use Rattle.replies_v2_values.specs.declared.ReplyV2.the-variants.{Measured, UnderRange, OverRange, Degrees, FilamentNumber, StatusNumber, Holds, Done, Error}
 use Rattle.replies_v2_values.proofs.ReplyV2.{the-type}
 use Rattle.replies_v2.specs.ReplyV2.{readShownV2}
 use Rattle.reply_kinds_v2.specs.Kind.{kindOf}
@@ -18,8 +18,8 @@ use Rattle.reply_kinds_v2.specs.Kind.{kindOf}
 placed : (r : ReplyV2) → kindOf r ≡ tagOf the-type r + 1
 unfolding readShownV2
 placed (Measured n) = refl
-placed BelowRange = refl
-placed AboveRange = refl
+placed UnderRange = refl
+placed OverRange = refl
 placed (Degrees negative h) = refl
 placed (FilamentNumber d) = refl
 placed (StatusNumber d) = refl

@@ -1,4 +1,4 @@
--- Document 01, "The master's side": the expected case of a decoded reply. Assumes nothing.
+-- Document 01, "The master's side": the expected case of a decoded reply.
 use mathlib.Core.List.{List, [], _∷_}
 use Prim.Native.Nat.{ℕ}
 use lib.Dec.{eqb}

@@ -42,8 +42,8 @@ fn no_pressure(reply: ReplyV2) -> u8
     ensures { λ k. ⌜ k ≡ noPressure reply ⌝ }
 {
     match reply {
-        ReplyV2::BelowRange => 11,
-        ReplyV2::AboveRange => 11,
+        ReplyV2::UnderRange => 11,
+        ReplyV2::OverRange => 11,
         _ => no_value(reply),
     }
 }

@@ -1,16 +1,15 @@
 -- Any bytes as a typed request, whatever the gauge's state: the address and the request, or the first refusal of document 01's table that needs
--- no state, 2 to 4 and 6 to 12. (5 needs the gauge's address; 12 is ST's F and T alone.) Assumes nothing.
+-- no state, 2 to 4 and 6 to 12. (5 needs the gauge's address; 12 is ST's F and T alone.)
 use mathlib.Core.Path.{_≡_}
 use mathlib.Core.Bool.{not}
 use mathlib.Core.List.{List, [], _∷_}
 use Prim.Native.Nat.{ℕ}
 use Rattle.buffer.specs.First.{_⇒_, first}
-use Rattle.buffer.specs.Byte.{within}
 use Rattle.frames.specs.Frame.{dataFrom, frameOf}
 use Rattle.frames.specs.declared.Frame.{Frame}
 use Rattle.frames.specs.declared.Frame.the-variants as frame
 use Rattle.sources.specs.Source.{listOf, Counted}
-use Rattle.settings.specs.Limits.{standard}
+use Rattle.settings.specs.Limits.{isFactor}
 use Rattle.requests.specs.AskV2.{askV2, askList}
 use Rattle.requests.specs.AskV1.{askV1}
 use Rattle.requests.specs.declared.AskV2.{AskV2}
@@ -24,7 +23,7 @@ use Rattle.request_reader.specs.declared.Request.the-variants.{V1, V2, R
 use Rattle.request_reader.specs.declared.Decoded.{Decoded}
 
 unfoldable pub fromV2 : ℕ → AskV2 → Request
-fromV2 address (v2.For r) = V2 address r
+fromV2 address (v2.Asks r) = V2 address r
 fromV2 address (v2.Refused k) = Refused k
 
 -- "`c` with six digits .. writes 20 to 800": without a lock the number is judged at once
@@ -32,13 +31,13 @@ unfoldable pub judgedV1 : ℕ → RequestV1 → Request
 judgedV1 address Measure = V1 address Measure
 judgedV1 address ReadFactor = V1 address ReadFactor
 judgedV1 address Unlock = V1 address Unlock
-judgedV1 address (SetFactor n) = first (not (within (standard .factorLow) (standard .factorHigh) n) ⇒ Refused 11 ∷ []) (V1 address (SetFactor n))
+judgedV1 address (SetFactor n) = first (not (isFactor n) ⇒ Refused 11 ∷ []) (V1 address (SetFactor n))
 judgedV1 address ReadUnit = V1 address ReadUnit
 judgedV1 address (SetUnit u) = V1 address (SetUnit u)
 
 unfoldable pub fromV1 : ℕ → AskV1 → Request
 fromV1 address (v1.Asks r) = judgedV1 address r
-fromV1 address (v1.Denied k) = Refused k
+fromV1 address (v1.Refused k) = Refused k
 
 -- what a frame asks, by the gauge's own decoding (askV2, askV1)
 unfoldable pub fromFrame : List ℕ → Frame → Request

@@ -26,7 +26,7 @@ fn from_v2(address: u16, ask: AskV2) -> Request
     ensures { λ r. ⌜ r ≡ fromV2 address ask ⌝ }
 {
     match ask {
-        AskV2::For(r) => Request::V2(address, r),
+        AskV2::Asks(r) => Request::V2(address, r),
         AskV2::Refused(k) => Request::Refused(k),
     }
 }
@@ -38,10 +38,7 @@ fn judged_v1(address: u16, request: RequestV1) -> Request
     let RequestV1::SetFactor(n) = request else {
         return Request::V1(address, request);
     };
-    if n < Settings::FACTOR_MIN as u32 {
-        return Request::Refused(11);
-    }
-    if (Settings::FACTOR_MAX as u32) < n {
+    if !Settings::is_factor(n) {
         return Request::Refused(11);
     }
     Request::V1(address, request)
@@ -52,7 +49,7 @@ fn from_v1(address: u16, ask: AskV1) -> Request
 {
     match ask {
         AskV1::Asks(r) => judged_v1(address, r),
-        AskV1::Denied(k) => Request::Refused(k),
+        AskV1::Refused(k) => Request::Refused(k),
     }
 }
 
@@ -74,10 +71,10 @@ pub fn read_request(s: &[u8]) -> Decoded
         frames::Frame::Length(_) => plain(Request::Refused(6)),
         frames::Frame::V1(h) => plain(from_v1(
             h.address,
-            requests::read_v1(h.letter, frames::data_from(s, 4)),
+            requests::read_v1(h.letter, frames::data_v1(s)),
         )),
         frames::Frame::V2(h) => {
-            let asked = requests::read_v2(h, frames::data_from(s, 8));
+            let asked = requests::read_v2(h, frames::data_v2(s));
             let ask = asked.ask;
             let sources = asked.sources;
             Decoded {

@@ -1,4 +1,4 @@
--- Document 01, "Settings and readings, V2" and "V1 on the same settings": what typed requests are sent as. Assumes nothing.
+-- Document 01, "Settings and readings, V2" and "V1 on the same settings": what typed requests are sent as.
 use mathlib.Core.List.{List, [], _∷_, _++_}
 use Prim.Native.Nat.{ℕ, _/_}
 use Rattle.buffer.specs.Byte.{at, digits3}
@@ -6,8 +6,7 @@ use Rattle.frames.specs.declared.HeadV1.{HeadV1}
 use Rattle.frames.specs.declared.HeadV2.{HeadV2}
 use Rattle.settings.specs.Settings.{keyOf, factory, putOf}
 use Rattle.settings.specs.Sent.{readText}
-use Rattle.settings.specs.declared.PressureUnit.{PressureUnit}
-use Rattle.settings.specs.declared.PressureUnit.the-variants.{Mbar, Torr, HPa}
+use Rattle.settings.specs.Units.{unitCode}
 use Rattle.requests.specs.Command.{commandText, readCode, writeCode, restoreCode}
 use Rattle.requests.specs.declared.Command.{Command}
 use Rattle.requests.specs.declared.Command.the-variants.{Of}
@@ -43,12 +42,6 @@ dataV2 (Set x) list = readText (keyOf x) (putOf factory x list)
 -- "six digits"
 abbrev pub digits6 : ℕ → List ℕ
 digits6 n = digits3 (n / 1000) ++ digits3 n
-
--- "000000 mbar, 000001 Torr, 000002 hPa"
-unfoldable pub unitCode : PressureUnit → ℕ
-unitCode Mbar = 0
-unitCode Torr = 1
-unitCode HPa = 2
 
 -- `M`, `C`, `c`, `U`, `u`
 unfoldable pub letterV1 : RequestV1 → ℕ

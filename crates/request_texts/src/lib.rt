@@ -3,7 +3,7 @@
 ghost use mathlib.Core.Path.{_≡_};
 ghost use Rattle.buffer.specs.Text.{textOf};
 ghost use Rattle.sources.specs.Source.{listOf};
-ghost use Rattle.request_texts.specs.RequestText.{accessOf, commandIn, headFor, dataV2, digits6, unitCode, letterV1, dataV1};
+ghost use Rattle.request_texts.specs.RequestText.{accessOf, commandIn, headFor, dataV2, digits6, letterV1, dataV1};
 use requests::Command;
 use requests::RequestV1;
 use requests::RequestV2;
@@ -76,17 +76,6 @@ pub fn six_digits(n: u32) -> buffer::Text
     buffer::Text::EMPTY.add(&digits)
 }
 
-// V1's number of a unit.
-pub fn unit_code(unit: settings::PressureUnit) -> u32
-    ensures { λ r. ⌜ r ≡ unitCode unit ⌝ }
-{
-    match unit {
-        settings::PressureUnit::Mbar => 0,
-        settings::PressureUnit::Torr => 1,
-        settings::PressureUnit::HPa => 2,
-    }
-}
-
 // The letter of a request.
 pub fn letter_v1(request: RequestV1) -> u8
     ensures { λ r. ⌜ r ≡ letterV1 request ⌝ }
@@ -111,6 +100,6 @@ pub fn data_v1(request: RequestV1) -> buffer::Text
         RequestV1::Unlock => buffer::Text::EMPTY.push(b'1'),
         RequestV1::SetFactor(n) => six_digits(n),
         RequestV1::ReadUnit => buffer::Text::EMPTY,
-        RequestV1::SetUnit(unit) => six_digits(unit_code(unit)),
+        RequestV1::SetUnit(unit) => six_digits(settings::unit_number(unit)),
     }
 }

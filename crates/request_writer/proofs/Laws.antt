@@ -1,4 +1,4 @@
--- Laws of requests that are written. Assumes nothing.
+-- Laws of requests that are written.
 use mathlib.Core.Path.{_≡_, sym}
 use mathlib.Core.Bool.{true, false}
 use mathlib.Core.List.{List}
@@ -8,13 +8,13 @@ use Rattle.buffer.specs.Byte.{within}
 use Rattle.buffer.specs.Answer.{silent}
 use Rattle.buffer.proofs.Rules.{rules}
 use Rattle.frame_writer.specs.Written.{carriesV2, frameV1}
-use Rattle.frames_facts.specs.Accepted.{sendable-exactly-v2}
+use Rattle.frames_facts.proofs.Accepted.{sendable-exactly-v2}
 use Rattle.sources.specs.Source.{listOf}
 use Rattle.sources.specs.declared.Sources.{Sources}
 use Rattle.requests.specs.declared.RequestV2.{RequestV2}
 use Rattle.requests.specs.declared.RequestV1.{RequestV1}
 use Rattle.request_texts.specs.RequestText.{headFor, dataV2, headForV1, dataV1}
-use Rattle.printed_facts.specs.Sendable.{request-sendable-v2}
+use Rattle.printed_facts.proofs.Sendable.{request-sendable-v2}
 use Rattle.request_writer.specs.Typed.{formedV2, formedV1}
 use Rattle.request_writer.specs.Written.{sentV2, requestWrittenV2, requestWrittenV1}
 

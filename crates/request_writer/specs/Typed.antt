@@ -1,4 +1,4 @@
--- Document 01, "The master's side": the values of typed requests, judged "by the rules above": 9, 10, 11 or 12. Assumes nothing.
+-- Document 01, "The master's side": the values of typed requests, judged "by the rules above": 9, 10, 11 or 12.
 use mathlib.Core.Bool.{Bool, not, _&&_}
 use mathlib.Core.List.{[], _∷_}
 use Prim.Native.Nat.{ℕ}
@@ -11,14 +11,14 @@ use Rattle.decimal.specs.declared.Exact.{Exact}
 use Rattle.decimal.specs.declared.Hundredths.the-variants.{Whole}
 use Rattle.sources.specs.Source.{knownSources, among, mostEntries, listOf}
 use Rattle.sources.specs.declared.Sources.{Sources}
-use Rattle.settings.specs.Limits.{standard}
+use Rattle.settings.specs.Limits.{standard, isFactor}
 use Rattle.settings.specs.declared.Transition.{Transition}
 use Rattle.settings.specs.declared.Transition.the-variants.{Direct, Between}
 use Rattle.settings.specs.declared.Setting.{Setting}
 use Rattle.settings.specs.declared.Setting.the-variants.{Address, PressureIn, Factor, Control, Cathode, Filament, Switch, Stream}
 use Rattle.forms.specs.Forms.{factorIn, limitedOf, transitionOf}
 use Rattle.forms.specs.declared.Digit.{Digit}
-use Rattle.forms.specs.declared.Digit.the-variants.{Is, Isnt}
+use Rattle.forms.specs.declared.Digit.the-variants.{Is}
 use Rattle.forms.specs.declared.Limited.{Limited}
 use Rattle.forms.specs.declared.Ends.{Ends}
 use Rattle.forms.specs.declared.Ends.the-variants.{One, Two}
@@ -29,7 +29,7 @@ use Rattle.requests.specs.AskV2.{setOf}
 use Rattle.requests.specs.declared.RequestV2.{RequestV2}
 use Rattle.requests.specs.declared.RequestV2.the-variants.{Read, Restore, Set}
 use Rattle.requests.specs.declared.AskV2.{AskV2}
-use Rattle.requests.specs.declared.AskV2.the-variants.{For, Refused}
+use Rattle.requests.specs.declared.AskV2.the-variants.{Asks}
 use Rattle.requests.specs.declared.RequestV1.{RequestV1}
 use Rattle.requests.specs.declared.RequestV1.the-variants.{Measure, ReadFactor, Unlock, SetFactor, ReadUnit, SetUnit}
 
@@ -47,12 +47,12 @@ endsIn (Between low high) = Two (limitedNumber low) (limitedNumber high)
 
 -- "One-digit settings: any other digit is RANGE, anything else SYNTAX"
 unfoldable pub typedDigit : ℕ → ℕ → Digit
-typedDigit most d = first (leb 10 d ⇒ Isnt 10 ∷ ltb most d ⇒ Isnt 11 ∷ []) (Is d)
+typedDigit most d = first (leb 10 d ⇒ Digit.Refused 10 ∷ ltb most d ⇒ Digit.Refused 11 ∷ []) (Is d)
 
 -- the setting x, whose digit is judged
 unfoldable pub judgedDigit : Setting → Digit → Verdict
 judgedDigit x (Is d) = verdict.Set x
-judgedDigit x (Isnt k) = verdict.Refused k
+judgedDigit x (Digit.Refused k) = verdict.Refused k
 
 -- DA; the type holds three digits at most
 unfoldable pub typedAddress : ℕ → Verdict
@@ -81,8 +81,8 @@ typedVerdict (Stream on) q = typedStream on q
 
 -- a typed V2 request: 9 where the command lacks the access
 unfoldable pub formedV2 : RequestV2 → Sources → AskV2
-formedV2 (Read c) q = For (Read c)
-formedV2 (Restore c) q = first (lacksAccess restoreCode c ⇒ Refused 9 ∷ []) (For (Restore c))
+formedV2 (Read c) q = Asks (Read c)
+formedV2 (Restore c) q = first (lacksAccess restoreCode c ⇒ AskV2.Refused 9 ∷ []) (Asks (Restore c))
 formedV2 (Set x) q = setOf (typedVerdict x q)
 
 -- a typed V1 request: `c` writes six digits, "20 to 800"
@@ -90,6 +90,6 @@ unfoldable pub formedV1 : RequestV1 → ℕ
 formedV1 Measure = 0
 formedV1 ReadFactor = 0
 formedV1 Unlock = 0
-formedV1 (SetFactor n) = first (leb 1000000 n ⇒ 10 ∷ not (within (standard .factorLow) (standard .factorHigh) n) ⇒ 11 ∷ []) 0
+formedV1 (SetFactor n) = first (leb 1000000 n ⇒ 10 ∷ not (isFactor n) ⇒ 11 ∷ []) 0
 formedV1 ReadUnit = 0
 formedV1 (SetUnit u) = 0

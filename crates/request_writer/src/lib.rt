@@ -4,9 +4,9 @@ ghost use mathlib.Core.Bool.{true, not, _&&_};
 ghost use Prim.Native.Nat.{_≤_};
 ghost use lib.Dec.{eqb};
 ghost use lib.ListN.{length};
-ghost use Rattle.buffer.specs.Byte.{within, every};
+ghost use Rattle.frame_writer.specs.Written.{isAddress};
 ghost use Rattle.buffer.specs.Answer.{Sent};
-ghost use Rattle.sources.specs.Source.{knownSources, among, listOf};
+ghost use Rattle.sources.specs.Source.{listOf};
 ghost use Rattle.request_writer.specs.Typed.{limitedNumber, endsIn, typedDigit, typedAddress, typedStream, judgedDigit, typedVerdict, formedV2, formedV1};
 ghost use Rattle.request_writer.specs.Written.{sentV2, requestWrittenV2, requestWrittenV1};
 use forms::Digit;
@@ -51,10 +51,10 @@ fn typed_digit(most: u8, d: u8) -> Digit
     ensures { λ r. ⌜ r ≡ typedDigit most d ⌝ }
 {
     if 10 <= d {
-        return Digit::Isnt(10);
+        return Digit::Refused(10);
     }
     if most < d {
-        return Digit::Isnt(11);
+        return Digit::Refused(11);
     }
     Digit::Is(d)
 }
@@ -66,53 +66,6 @@ fn typed_address(a: u8) -> Verdict
         return Verdict::Refused(11);
     }
     Verdict::Set(Setting::Address(a))
-}
-
-// Whether a code is one of the gauge's sources.
-fn is_code(c: u8) -> bool
-    ensures { λ r. ⌜ r ≡ among knownSources c ⌝ }
-{
-    if c == 0 {
-        return true;
-    }
-    if c == 1 {
-        return true;
-    }
-    if c == 2 {
-        return true;
-    }
-    if c == 6 {
-        return true;
-    }
-    if c == 7 {
-        return true;
-    }
-    if c == 8 {
-        return true;
-    }
-    c == 9
-}
-
-// Whether each code of a list is one of the gauge's sources.
-fn all_codes(codes: &[u8]) -> bool
-    ensures { λ r. ⌜ r ≡ every (among knownSources) (now (codes .entry)) ⌝ }
-{
-    let mut i: usize = 0;
-    while i < codes.len() {
-        if !is_code(codes[i]) {
-            return false;
-        }
-        i += 1;
-    }
-    true
-}
-
-fn has_known_list(q: sources::Sources) -> bool
-    ensures { λ r. ⌜ r ≡ every (among knownSources) (listOf q) ⌝ }
-{
-    let codes = q.codes;
-    let n = q.size();
-    all_codes(&codes[..n])
 }
 
 // Whether the mode is 0 and a list stands beside it.
@@ -132,7 +85,7 @@ fn typed_stream(on: bool, q: sources::Sources) -> Verdict
     if is_idle_list(on, count) {
         return Verdict::Refused(10);
     }
-    if !has_known_list(q) {
+    if !sources::all_known(q) {
         return Verdict::Refused(11);
     }
     if sources::Sources::MOST < count {
@@ -146,7 +99,7 @@ fn digit_verdict(x: Setting, d: Digit) -> Verdict
 {
     match d {
         Digit::Is(_) => Verdict::Set(x),
-        Digit::Isnt(k) => Verdict::Refused(k),
+        Digit::Refused(k) => Verdict::Refused(k),
     }
 }
 
@@ -171,15 +124,15 @@ fn formed_v2(request: RequestV2, q: sources::Sources) -> AskV2
     ensures { λ r. ⌜ r ≡ formedV2 request q ⌝ }
 {
     match request {
-        RequestV2::Read(_) => AskV2::For(request),
+        RequestV2::Read(_) => AskV2::Asks(request),
         RequestV2::Restore(c) => {
             if requests::lacks_access(b'4', c) {
                 return AskV2::Refused(9);
             }
-            AskV2::For(request)
+            AskV2::Asks(request)
         }
         RequestV2::Set(x) => match judge_setting(x, q) {
-            Verdict::Set(y) => AskV2::For(RequestV2::Set(y)),
+            Verdict::Set(y) => AskV2::Asks(RequestV2::Set(y)),
             Verdict::Refused(k) => AskV2::Refused(k),
         },
     }
@@ -195,10 +148,7 @@ fn formed_v1(request: RequestV1) -> u8
     if 1000000 <= n {
         return 10;
     }
-    if n < Settings::FACTOR_MIN as u32 {
-        return 11;
-    }
-    if (Settings::FACTOR_MAX as u32) < n {
+    if !Settings::is_factor(n) {
         return 11;
     }
     0
@@ -217,12 +167,12 @@ fn refused(number: u8) -> buffer::Written
 
 // Writes the frame of a request that is formed.
 fn send_v2(out: &mut [u8], address: u16, ask: AskV2, q: sources::Sources) -> buffer::Written
-    requires { ⌜ (34 ≤ length (now out)) × (within 1 999 address ≡ true) ⌝ }
+    requires { ⌜ (34 ≤ length (now out)) × (isAddress address ≡ true) ⌝ }
     ensures { λ w. ⌜ Sent (now (out .entry)) (sentV2 address ask (listOf q)) (now (out .exit)) w ⌝ }
 {
     match ask {
         AskV2::Refused(k) => refused(k),
-        AskV2::For(request) => {
+        AskV2::Asks(request) => {
             let text = request_texts::data_v2(request, q);
             frame_writer::write_text_v2(out, request_texts::head_for(address, request), text)
         }

@@ -1,4 +1,4 @@
--- Laws of six digits. Assumes nothing.
+-- Laws of six digits.
 use mathlib.Core.Path.{_≡_, ap}
 use mathlib.Core.Bool.{true, and-eq-true-iff}
 use mathlib.Core.List.{List}

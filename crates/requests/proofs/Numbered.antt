@@ -1,4 +1,4 @@
--- Two bytes as the one number that `command_of` goes by: equal exactly where the two texts are. Assumes nothing.
+-- Two bytes as the one number that `command_of` goes by: equal exactly where the two texts are.
 use mathlib.Core.Path.{_≡_, refl, sym, _∙_}
 use mathlib.Core.Bool.{Bool, true, false}
 use mathlib.Core.List.{[], _∷_}

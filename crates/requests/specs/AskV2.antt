@@ -1,4 +1,4 @@
--- What a V2 frame asks: a typed request, or the first refusal that applies whatever the state, 7 to 12. Assumes nothing.
+-- What a V2 frame asks: a typed request, or the first refusal that applies whatever the state, 7 to 12.
 use mathlib.Core.Path.{_≡_}
 use mathlib.Core.Bool.{not}
 use mathlib.Core.List.{List, [], _∷_}
@@ -18,12 +18,12 @@ use Rattle.requests.specs.declared.Named.{Named}
 use Rattle.requests.specs.declared.Named.the-variants.{Known, Unknown}
 use Rattle.requests.specs.declared.RequestV2.the-variants.{Read, Restore, Set}
 use Rattle.requests.specs.declared.AskV2.{AskV2}
-use Rattle.requests.specs.declared.AskV2.the-variants.{For, Refused}
+use Rattle.requests.specs.declared.AskV2.the-variants.{Asks, Refused}
 use Rattle.requests.specs.declared.AskedV2.{AskedV2}
 
 -- the data of a write, as they are judged
 unfoldable pub setOf : Verdict → AskV2
-setOf (verdict.Set x) = For (Set x)
+setOf (verdict.Set x) = Asks (Set x)
 setOf (verdict.Refused k) = Refused k
 
 -- a write; a command that has none is refused with 9 before its data are looked at
@@ -41,9 +41,9 @@ askKnown access c s =
     (lacksAccess access c ⇒ Refused 9
     ∷ eqb access writeCode ⇒ writeOf c s
     ∷ not (eqb (length s) 0) ⇒ Refused 10
-    ∷ eqb access restoreCode ⇒ For (Restore c)
+    ∷ eqb access restoreCode ⇒ Asks (Restore c)
     ∷ [])
-    (For (Read c))
+    (Asks (Read c))
 
 unfoldable pub askNamed : ℕ → Named → List ℕ → AskV2
 askNamed access Unknown s = Refused 8

@@ -1,4 +1,4 @@
--- The commands of V2 and the column "Access". Assumes nothing.
+-- The commands of V2 and the column "Access".
 use mathlib.Core.Bool.{Bool, true, false, not, _||_}
 use mathlib.Core.List.{List, [], _∷_}
 use Prim.Native.Nat.{ℕ}

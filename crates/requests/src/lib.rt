@@ -29,7 +29,7 @@ pub enum RequestV2 {
 
 // What a V2 frame asks, or the refusal's number.
 pub enum AskV2 {
-    For(RequestV2),
+    Asks(RequestV2),
     Refused(u8),
 }
 
@@ -179,7 +179,7 @@ fn set_of(verdict: forms::Verdict) -> AskV2
     ensures { λ r. ⌜ r ≡ setOf verdict ⌝ }
 {
     match verdict {
-        forms::Verdict::Set(x) => AskV2::For(RequestV2::Set(x)),
+        forms::Verdict::Set(x) => AskV2::Asks(RequestV2::Set(x)),
         forms::Verdict::Refused(k) => AskV2::Refused(k),
     }
 }
@@ -221,9 +221,9 @@ pub fn read_v2(head: frames::HeadV2, bytes: &[u8]) -> AskedV2
         return plain(AskV2::Refused(10));
     }
     if access == b'4' {
-        return plain(AskV2::For(RequestV2::Restore(command)));
+        return plain(AskV2::Asks(RequestV2::Restore(command)));
     }
-    plain(AskV2::For(RequestV2::Read(command)))
+    plain(AskV2::Asks(RequestV2::Read(command)))
 }
 
 // ---- V1
@@ -247,7 +247,7 @@ pub enum RequestV1 {
 // What a V1 frame asks, or the refusal's number.
 pub enum AskV1 {
     Asks(RequestV1),
-    Denied(u8),
+    Refused(u8),
 }
 
 // Whether a text is six digits.
@@ -265,7 +265,7 @@ fn bare(s: &[u8], request: RequestV1) -> AskV1
     ensures { λ r. ⌜ r ≡ bareOf (now (s .entry)) request ⌝ }
 {
     if s.len() != 0 {
-        return AskV1::Denied(10);
+        return AskV1::Refused(10);
     }
     AskV1::Asks(request)
 }
@@ -277,11 +277,11 @@ fn with_one(s: &[u8], request: RequestV1) -> AskV1
     match forms::judge_digit(s, 9) {
         forms::Digit::Is(d) => {
             if d != 1 {
-                return AskV1::Denied(11);
+                return AskV1::Refused(11);
             }
             AskV1::Asks(request)
         }
-        forms::Digit::Isnt(k) => AskV1::Denied(k),
+        forms::Digit::Refused(k) => AskV1::Refused(k),
     }
 }
 
@@ -289,11 +289,9 @@ fn with_one(s: &[u8], request: RequestV1) -> AskV1
 fn unit_at(n: u32) -> AskV1
     ensures { λ r. ⌜ r ≡ unitAt n ⌝ }
 {
-    match n {
-        0 => AskV1::Asks(RequestV1::SetUnit(settings::PressureUnit::Mbar)),
-        1 => AskV1::Asks(RequestV1::SetUnit(settings::PressureUnit::Torr)),
-        2 => AskV1::Asks(RequestV1::SetUnit(settings::PressureUnit::HPa)),
-        _ => AskV1::Denied(11),
+    match settings::unit_named(n) {
+        settings::NamedUnit::Unit(u) => AskV1::Asks(RequestV1::SetUnit(u)),
+        settings::NamedUnit::None => AskV1::Refused(11),
     }
 }
 
@@ -315,8 +313,8 @@ pub fn read_v1(letter: u8, bytes: &[u8]) -> AskV1
             if has_six_digits(bytes) {
                 return unit_at(buffer::numeral_of(bytes));
             }
-            AskV1::Denied(10)
+            AskV1::Refused(10)
         }
-        _ => AskV1::Denied(8),
+        _ => AskV1::Refused(8),
     }
 }

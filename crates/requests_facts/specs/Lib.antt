@@ -1,5 +1,4 @@
--- Document 01, what a frame asks: theorems to lay beside the paper. Examples has the commands by their texts and worked cases, Commands says
--- that no other bytes name one, Data with which numbers the data of a write are refused.
+-- Document 01, what a frame asks: what holds of it, to lay beside the paper. Examples has the commands by their texts and worked cases, Theorems says
+-- what holds.
 pub mod Examples
-pub mod Commands
-pub mod Data
+pub mod Theorems

@@ -1,4 +1,4 @@
--- Requests read and written again, by the definitions of the readers and the writers. Assumes nothing.
+-- Requests read and written again, by the definitions of the readers and the writers.
 use mathlib.Core.List.{List}
 use Prim.Native.Nat.{ℕ, _+_}
 use lib.ListN.{length}
@@ -10,9 +10,9 @@ use Rattle.request_reader.specs.declared.Decoded.{Decoded}
 use Rattle.request_reader.specs.declared.Request.{Request}
 use Rattle.request_reader.specs.declared.Request.the-variants.{V1, V2, Refused}
 use Rattle.request_writer.specs.Written.{requestWrittenV1, requestWrittenV2}
-use Rattle.opg_requests.specs.declared.Asked.{Asked}
-use Rattle.opg_requests.specs.declared.Asked.the-variants.{Silent, Error, Accepted}
-use Rattle.opg_master.specs.Written.{requestWritten}
+use Rattle.opg_request_reader.specs.declared.Asked.{Asked}
+use Rattle.opg_request_reader.specs.declared.Asked.the-variants.{Silent, Error, Accepted}
+use Rattle.opg_request_writer.specs.Written.{requestWritten}
 
 -- a text request that was read, written again into so much memory; a refusal is handed on
 unfoldable pub textAgain : ℕ → Request → Sources → Answer

@@ -1,9 +1,9 @@
 // Requests read and written again: any bytes to the one form in which the master sends what they ask.
 ghost use lib.ListN.{length};
 ghost use Rattle.buffer.specs.Answer.{Sent};
-ghost use Rattle.opg_requests.specs.Asked.{askedOf};
+ghost use Rattle.opg_request_reader.specs.Asked.{askedOf};
 ghost use Rattle.rewriter.specs.Again.{textAgain, opgAgain, Rewritten};
-use opg_requests::Asked;
+use opg_request_reader::Asked;
 use request_reader::Request;
 
 // Writes a request that was read, or hands on the refusal.
@@ -42,7 +42,7 @@ fn write_opg_again(out: &mut [u8], asked: Asked) -> buffer::Written
             number: 1000 + (e as u16),
             len: 0,
         },
-        Asked::Accepted(r) => opg_master::write_request(out, r),
+        Asked::Accepted(r) => opg_request_writer::write_request(out, r),
     }
 }
 
@@ -50,5 +50,5 @@ fn write_opg_again(out: &mut [u8], asked: Asked) -> buffer::Written
 pub fn rewrite_opg(request: &[u8], out: &mut [u8]) -> buffer::Written
     ensures { λ w. ⌜ Sent (now (out .entry)) (opgAgain (length (now (out .entry))) (askedOf (now (request .entry)))) (now (out .exit)) w ⌝ }
 {
-    write_opg_again(out, opg_requests::read_request(request))
+    write_opg_again(out, opg_request_reader::read_request(request))
 }

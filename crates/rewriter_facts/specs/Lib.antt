@@ -1,2 +1,3 @@
 -- Text requests that are read and written again.
-pub mod Fixed
+pub mod Again
+pub mod Theorems

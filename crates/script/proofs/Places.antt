@@ -1,4 +1,4 @@
--- What the numbers of a call make of it, and a call in what is left of a script, as one of the script. Assumes nothing.
+-- What the numbers of a call make of it, and a call in what is left of a script, as one of the script.
 use mathlib.Core.Path.{_≡_, ap, _∙_}
 use mathlib.Core.Bool.{not}
 use mathlib.Core.List.{List}
@@ -7,19 +7,18 @@ use native.Mathlib.Omega.{arith}
 use borrow.Author.Tests.{lt-ltb, le-ltb}
 use lib.Dec.{eqb}
 use lib.ListN.{length, drop, length-drop}
-use Rattle.buffer.specs.Byte.{at}
+use Rattle.buffer.specs.Byte.{at, pairAt, wordAt}
 use Rattle.buffer.specs.First.{pick}
-use Rattle.script.specs.Number.{pairAt, wordAt}
-use Rattle.script.specs.Script.{requestOf, valueOf, callOf, callAt, Fits}
+use Rattle.script.specs.Script.{requestOf, exactAt, callOf, callAt, Fits}
 use Rattle.script.specs.declared.To.{To}
 use Rattle.script.specs.declared.Call.{Call}
-use Rattle.script.specs.declared.Call.the-variants.{Request, Line, Setting, Offer, End}
+use Rattle.script.specs.declared.Call.the-variants.{Request, Line, SetBench, SetOpgBench, End}
 
 -- ---- numbers
 
 -- a value with these digits
-pub value-with : (s : List ℕ) (n : ℕ) → n ≡ wordAt s 4 → record { negative = not (eqb (at s 3) 0); digits = n; up = at s 8; down = at s 9 } ≡ valueOf s
-unfolding valueOf
+pub value-with : (s : List ℕ) (n : ℕ) → n ≡ wordAt s 4 → record { negative = not (eqb (at s 3) 0); digits = n; up = at s 8; down = at s 9 } ≡ exactAt s
+unfolding exactAt
 value-with s n e = ap (λ (k : ℕ). record { negative = not (eqb (at s 3) 0); digits = k; up = at s 8; down = at s 9 }) e
 
 -- a request with these numbers, and one that ends before its bytes do
@@ -39,8 +38,8 @@ ends script s at n e h k = let w : length s ≡ length script - at = ap length e
 shift : (script s : List ℕ) (at : ℕ) (k : Call) → s ≡ drop at script → Fits (length s) 0 k → Fits (length script) at k
 shift script s at (Request to room len) e f = (f .0, omega (arith, ends script s at (5 + len) e (omega arith) (f .1)))
 shift script s at (Line room) e f = (f .0, ends script s at 3 e (omega arith) (f .1))
-shift script s at (Setting b) e f = ends script s at 10 e (omega arith) f
-shift script s at (Offer p) e f = ends script s at 6 e (omega arith) f
+shift script s at (SetBench b) e f = ends script s at 10 e (omega arith) f
+shift script s at (SetOpgBench p) e f = ends script s at 6 e (omega arith) f
 shift script s at End e f = tt
 
 -- the call at the front of what is left is the one at this place

@@ -1,19 +1,18 @@
--- The calls of a script: what stands at its front, and at a place of it. Assumes nothing.
+-- The calls of a script: what stands at its front, and at a place of it.
 use mathlib.Core.Bool.{not}
 use mathlib.Core.List.{List, [], _∷_}
 use Prim.Native.Nat.{ℕ, _+_, _-_, _<_, _≤_}
 use lib.Dec.{ltb, eqb}
 use lib.ListN.{length, drop}
 use Rattle.buffer.specs.First.{_⇒_, first}
-use Rattle.buffer.specs.Byte.{at}
+use Rattle.buffer.specs.Byte.{at, pairAt, wordAt}
 use Rattle.decimal.specs.declared.Exact.{Exact}
-use Rattle.readings.specs.declared.Bench.the-variants.{Reads, BelowRange, AboveRange, Fault, Status}
+use Rattle.readings.specs.declared.Bench.the-variants.{Reads, UnderRange, OverRange, Faulty, Status}
 use Rattle.opg_gauge.specs.declared.Pressure.the-variants.{Bits, Unavailable}
-use Rattle.script.specs.Number.{pairAt, wordAt}
 use Rattle.script.specs.declared.To.{To}
 use Rattle.script.specs.declared.To.the-variants.{Text, Opg}
 use Rattle.script.specs.declared.Call.{Call}
-use Rattle.script.specs.declared.Call.the-variants.{Request, Line, Setting, Offer, End}
+use Rattle.script.specs.declared.Call.the-variants.{Request, Line, SetBench, SetOpgBench, End}
 
 -- a request: 0 or 3, how many bytes are lent, how many bytes it has, and its bytes
 unfoldable pub requestOf : To → List ℕ → Call
@@ -25,18 +24,18 @@ lineOf s = first (ltb (length s) 3 ⇒ End ∷ []) (Line (pairAt s 1))
 
 -- a bench setting of the text gauge: 2, which, the source's code or the status, the sign, four bytes of digits, how many places up and how many
 -- down
-unfoldable pub valueOf : List ℕ → Exact
-valueOf s = record { negative = not (eqb (at s 3) 0); digits = wordAt s 4; up = at s 8; down = at s 9 }
+unfoldable pub exactAt : List ℕ → Exact
+exactAt s = record { negative = not (eqb (at s 3) 0); digits = wordAt s 4; up = at s 8; down = at s 9 }
 
 unfoldable pub settingOf : List ℕ → Call
 settingOf s =
     first
     (ltb (length s) 10 ⇒ End
-    ∷ eqb (at s 1) 0 ⇒ Setting (Reads (at s 2) (valueOf s))
-    ∷ eqb (at s 1) 1 ⇒ Setting (BelowRange (at s 2))
-    ∷ eqb (at s 1) 2 ⇒ Setting (AboveRange (at s 2))
-    ∷ eqb (at s 1) 3 ⇒ Setting (Fault (at s 2))
-    ∷ eqb (at s 1) 4 ⇒ Setting (Status (at s 2))
+    ∷ eqb (at s 1) 0 ⇒ SetBench (Reads (at s 2) (exactAt s))
+    ∷ eqb (at s 1) 1 ⇒ SetBench (UnderRange (at s 2))
+    ∷ eqb (at s 1) 2 ⇒ SetBench (OverRange (at s 2))
+    ∷ eqb (at s 1) 3 ⇒ SetBench (Faulty (at s 2))
+    ∷ eqb (at s 1) 4 ⇒ SetBench (Status (at s 2))
     ∷ [])
     End
 
@@ -45,8 +44,8 @@ unfoldable pub pressureOf : List ℕ → Call
 pressureOf s =
     first
     (ltb (length s) 6 ⇒ End
-    ∷ eqb (at s 1) 0 ⇒ Offer (Bits (wordAt s 2))
-    ∷ eqb (at s 1) 1 ⇒ Offer Unavailable
+    ∷ eqb (at s 1) 0 ⇒ SetOpgBench (Bits (wordAt s 2))
+    ∷ eqb (at s 1) 1 ⇒ SetOpgBench Unavailable
     ∷ [])
     End
 
@@ -71,14 +70,14 @@ callAt script at = callOf (drop at script)
 abbrev pub roomOf : Call → ℕ
 roomOf (Request to room len) = room
 roomOf (Line room) = room
-roomOf (Setting b) = 0
-roomOf (Offer p) = 0
+roomOf (SetBench b) = 0
+roomOf (SetOpgBench p) = 0
 roomOf End = 0
 
 -- a call that was read at place `at` of n bytes ends within them, and its room is a 16-bit number
 abbrev pub Fits : ℕ → ℕ → Call → Type 0
 Fits n at (Request to room len) = (room < 65536) × (at + 5 + len ≤ n)
 Fits n at (Line room) = (room < 65536) × (at + 3 ≤ n)
-Fits n at (Setting b) = at + 10 ≤ n
-Fits n at (Offer p) = at + 6 ≤ n
+Fits n at (SetBench b) = at + 10 ≤ n
+Fits n at (SetOpgBench p) = at + 6 ≤ n
 Fits n at End = Unit {0}

@@ -11,8 +11,8 @@
 ghost use mathlib.Core.Path.{_≡_};
 ghost use Prim.Native.Nat.{_<_, _≤_};
 ghost use lib.ListN.{length};
-ghost use Rattle.script.specs.Number.{pairOf, wordOf};
-ghost use Rattle.script.specs.Script.{requestOf, lineOf, valueOf, settingOf, pressureOf, callOf, callAt, Fits};
+ghost use Rattle.buffer.specs.Byte.{pairOf};
+ghost use Rattle.script.specs.Script.{requestOf, lineOf, exactAt, settingOf, pressureOf, callOf, callAt, Fits};
 
 // The gauge that a request is for.
 pub enum To {
@@ -26,8 +26,8 @@ pub enum Call {
     Request(To, usize, usize),
     // how many bytes are lent
     Line(usize),
-    Setting(readings::Bench),
-    Offer(opg_gauge::Pressure),
+    SetBench(readings::Bench),
+    SetOpgBench(opg_gauge::Pressure),
     // no whole call
     End,
 }
@@ -38,14 +38,6 @@ fn pair(high: u8, low: u8) -> usize
     ensures { λ r. ⌜ r < 65536 ⌝ }
 {
     (high as usize) * 256 + (low as usize)
-}
-
-// The number of four bytes.
-fn word(a: u8, b: u8, c: u8, d: u8) -> u32
-    ensures { λ r. ⌜ r ≡ wordOf a b c d ⌝ }
-    ensures { λ r. ⌜ r < 4294967296 ⌝ }
-{
-    (a as u32) * 16777216 + (b as u32) * 65536 + (c as u32) * 256 + (d as u32)
 }
 
 fn request_of(to: To, s: &[u8]) -> Call
@@ -75,11 +67,11 @@ fn line_of(s: &[u8]) -> Call
 
 fn value_of(s: &[u8]) -> decimal::Exact
     requires { ⌜ 10 ≤ length (now s) ⌝ }
-    ensures { λ r. ⌜ r ≡ valueOf (now (s .entry)) ⌝ }
+    ensures { λ r. ⌜ r ≡ exactAt (now (s .entry)) ⌝ }
 {
     decimal::Exact {
         negative: s[3] != 0,
-        digits: word(s[4], s[5], s[6], s[7]),
+        digits: buffer::word(s[4], s[5], s[6], s[7]),
         up: s[8],
         down: s[9],
     }
@@ -95,19 +87,19 @@ fn setting_of(s: &[u8]) -> Call
     let which = s[1];
     let code = s[2];
     if which == 0 {
-        return Call::Setting(readings::Bench::Reads(code, value_of(s)));
+        return Call::SetBench(readings::Bench::Reads(code, value_of(s)));
     }
     if which == 1 {
-        return Call::Setting(readings::Bench::BelowRange(code));
+        return Call::SetBench(readings::Bench::UnderRange(code));
     }
     if which == 2 {
-        return Call::Setting(readings::Bench::AboveRange(code));
+        return Call::SetBench(readings::Bench::OverRange(code));
     }
     if which == 3 {
-        return Call::Setting(readings::Bench::Fault(code));
+        return Call::SetBench(readings::Bench::Faulty(code));
     }
     if which == 4 {
-        return Call::Setting(readings::Bench::Status(code));
+        return Call::SetBench(readings::Bench::Status(code));
     }
     Call::End
 }
@@ -121,10 +113,10 @@ fn pressure_of(s: &[u8]) -> Call
     }
     let which = s[1];
     if which == 0 {
-        return Call::Offer(opg_gauge::Pressure::Bits(word(s[2], s[3], s[4], s[5])));
+        return Call::SetOpgBench(opg_gauge::Pressure::Bits(buffer::word(s[2], s[3], s[4], s[5])));
     }
     if which == 1 {
-        return Call::Offer(opg_gauge::Pressure::Unavailable);
+        return Call::SetOpgBench(opg_gauge::Pressure::Unavailable);
     }
     Call::End
 }

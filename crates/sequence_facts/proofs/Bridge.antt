@@ -1,13 +1,11 @@
 -- A step of `Trace` is the contract of the function as the prover reads it off the source (`Learnt`), and nothing else: the proofs are the
 -- constructors themselves. (A second clause of a contract is on the count of a list, and no step needs it.) None of the four functions has a
 -- `requires` (`Asked`). a is the arguments, r the result, x the parameters at exit.
--- Assumes nothing.
 use mathlib.Core.List.{[], _∷_}
 use contract.Lifetimes.{Lfts}
 use borrow.Fn.Kinds.{Dens, resT, endedOf}
 use denote.Triple.Clauses.{AtExit}
 use denote.Ref.{now}
-use Rattle.sequence_facts.specs.Sequence.{History, asked, set, lined, Trace, begin, ask, tell, show}
 use Rattle.gauge_rules.proofs.Gauge.at_start.Kinds as at-start-kinds
 use Rattle.gauge_rules.proofs.Gauge.at_start.Reads as at-start-reads
 use Rattle.text_gauge.proofs.answer.Kinds as answer-kinds
@@ -16,6 +14,7 @@ use Rattle.text_gauge.proofs.set_bench.Kinds as set-bench-kinds
 use Rattle.text_gauge.proofs.set_bench.Reads as set-bench-reads
 use Rattle.text_gauge.proofs.stream_line.Kinds as stream-line-kinds
 use Rattle.text_gauge.proofs.stream_line.Reads as stream-line-reads
+use Rattle.sequence_facts.specs.Sequence.{History, asked, benchSet, lined, Trace, begin, ask, setBench, show}
 
 pub begin-step : (κs : Lfts 0) (a : Dens κs at-start-kinds.ps) (r : resT at-start-kinds.r κs .Denot) (x : AtExit (endedOf 0 at-start-kinds.ps at-start-kinds.r) κs)
     → at-start-reads.Learnt κs a r x → Trace [] r
@@ -28,8 +27,8 @@ ask-step κs a r x t contract = ask t (contract .0)
 
 pub tell-step : {h : History} (κs : Lfts 0) (a : Dens κs set-bench-kinds.ps) (r : resT set-bench-kinds.r κs .Denot)
     (x : AtExit (endedOf 0 set-bench-kinds.ps set-bench-kinds.r) κs) → Trace h (a .0) → set-bench-reads.Learnt κs a r x
-    → Trace (set (a .1 .0) (r .number) ∷ h) (r .gauge)
-tell-step κs a r x t contract = tell t (contract .0)
+    → Trace (benchSet (a .1 .0) (r .number) ∷ h) (r .gauge)
+tell-step κs a r x t contract = setBench t (contract .0)
 
 pub show-step : {h : History} (κs : Lfts 1) (a : Dens κs stream-line-kinds.ps) (r : resT stream-line-kinds.r κs .Denot)
     (x : AtExit (endedOf 1 stream-line-kinds.ps stream-line-kinds.r) κs) → Trace h (a .0) → stream-line-reads.Learnt κs a r x

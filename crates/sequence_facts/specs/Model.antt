@@ -1,5 +1,5 @@
 -- The reference model of a text gauge: document 01's "book". "Each gauge's book is fed its requests' bytes, the length of the memory lent with
--- each and its bench settings, no answers. It starts with factory values and the bench's start, a text gauge's also locked." Assumes nothing.
+-- each and its bench settings, no answers. It starts with factory values and the bench's start, a text gauge's also locked."
 use mathlib.Core.List.{List, [], _∷_}
 use Prim.Native.Nat.{ℕ}
 use Rattle.readings.specs.Bench.{benchOf}

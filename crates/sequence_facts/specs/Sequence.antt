@@ -1,4 +1,4 @@
--- Any sequence of calls from factory settings, as it is seen from outside, and the one claim about it. Assumes nothing.
+-- Any sequence of calls from factory settings, as it is seen from outside, and the one claim about it.
 use mathlib.Core.Path.{_≡_}
 use mathlib.Core.Bool.{Bool, true, false, not, _&&_}
 use mathlib.Core.List.{List, [], _∷_, map}
@@ -31,7 +31,7 @@ use Rattle.gauge_table.specs.After.{answerOf}
 use Rattle.text_gauge.specs.Answer.{Answers, Benches}
 use Rattle.text_gauge.specs.declared.Answered.{Answered}
 use Rattle.text_gauge.specs.declared.BenchAnswer.{BenchAnswer}
-use Rattle.gauge_facts.specs.Kept.{SoundState}
+use Rattle.gauge_facts.specs.Sound.{SoundState}
 use Rattle.history.specs.Latest.{Each, latest}
 use Rattle.sequence_facts.specs.Model.{Fed, request, bench, line, modelOf}
 use Rattle.sequence_facts.specs.Writes.{Value, holding, writes}
@@ -43,7 +43,7 @@ use Rattle.sequence_facts.specs.Shown.{Listed, shownLine, valuesIn}
 -- afterwards; a bench setting and its number; a request for the stream line
 pub data Exchange : Type 0 where
   asked : (s before : List ℕ) (number len : ℕ) (after : List ℕ) → Exchange
-  set : (b : Bench) (number : ℕ) → Exchange
+  benchSet : (b : Bench) (number : ℕ) → Exchange
   lined : (before : List ℕ) (number len : ℕ) (after : List ℕ) → Exchange
 
 -- the calls that were made, the latest first
@@ -53,7 +53,7 @@ History = List Exchange
 -- what the reference model is fed of a call: no answers
 abbrev pub fed : Exchange → Fed
 fed (asked s before number len after) = request s (length before)
-fed (set b number) = bench b
+fed (benchSet b number) = bench b
 fed (lined before number len after) = line (length before)
 
 abbrev pub model : History → State
@@ -65,7 +65,7 @@ pub data Trace : History → Gauge → Type 0 where
   begin : {g : Gauge} → stateOf g ≡ fresh → Trace [] g
   ask : {h : History} {g : Gauge} {s before after : List ℕ} {r : Answered} → Trace h g → Answers (stateOf g) s before after r
       → Trace (asked s before (r .written .number) (r .written .len) after ∷ h) (r .gauge)
-  tell : {h : History} {g : Gauge} {b : Bench} {r : BenchAnswer} → Trace h g → Benches (stateOf g) b r → Trace (set b (r .number) ∷ h) (r .gauge)
+  setBench : {h : History} {g : Gauge} {b : Bench} {r : BenchAnswer} → Trace h g → Benches (stateOf g) b r → Trace (benchSet b (r .number) ∷ h) (r .gauge)
   show : {h : History} {g : Gauge} {before after : List ℕ} {w : Written} → Trace h g
       → Sent before (lineAnswer (length before) (held (g .settings)) (g .readings)) after w → Trace (lined before (w .number) (w .len) after ∷ h) g
 
@@ -76,7 +76,7 @@ pub data Trace : History → Gauge → Type 0 where
 abbrev pub Fixed : State → Exchange → Type 0
 Fixed m (asked s before number len after) =
     Sent before (answerOf m (length before) s) after (record { number = number; len = len }) × (len ≤ length before)
-Fixed m (set b number) = number ≡ benchNumber (benchOf b)
+Fixed m (benchSet b number) = number ≡ benchNumber (benchOf b)
 Fixed m (lined before number len after) =
     Sent before (lineAnswer (length before) (m .settings) (m .readings)) after (record { number = number; len = len }) × (len ≤ length before)
 
@@ -89,7 +89,7 @@ AllFixed h = Each (λ earlier e. Fixed (model earlier) e) h
 -- what a call, by its bytes and its answered number, says of a setting
 unfoldable pub saysSetting : Key → Exchange → Option Value
 saysSetting key (asked s before number len after) = pick (eqb number 0) (writes key s) none
-saysSetting key (set b number) = none
+saysSetting key (benchSet b number) = none
 saysSetting key (lined before number len after) = none
 
 -- whether two codes are one; FS has none
@@ -107,7 +107,7 @@ pub data Origin : Type 0 where
 -- what a call says of a reading: a bench setting that names its source and was answered 0, and nothing else
 unfoldable pub saysReading : Place → Exchange → Option Origin
 saysReading p (asked s before number len after) = none
-saysReading p (set b number) = pick (eqb number 0 && sameCode (names b) (codeOf p)) (some (handed b)) none
+saysReading p (benchSet b number) = pick (eqb number 0 && sameCode (names b) (codeOf p)) (some (handed b)) none
 saysReading p (lined before number len after) = none
 
 -- the reading of a place that is from there: it is what it was at the start, or what the bench setting handed over
@@ -122,7 +122,7 @@ isUnlock s = eqb (at s 3) 99 && sameText (dataFrom 4 s) (49 ∷ [])
 -- a V1 request past check 5 says whether it was an accepted unlock; nothing else says anything
 unfoldable pub saysUnlock : Exchange → Option Bool
 saysUnlock (asked s before number len after) = pick (isV1 s && not (within 1 5 number)) (some (eqb number 0 && isUnlock s)) none
-saysUnlock (set b number) = none
+saysUnlock (benchSet b number) = none
 saysUnlock (lined before number len after) = none
 
 -- ---- the claim

@@ -1,5 +1,4 @@
--- The stream line by what it shows: the text of the reading that stands at each source listed, and how many values stand in its bytes. Assumes
--- nothing.
+-- The stream line by what it shows: the text of the reading that stands at each source listed, and how many values stand in its bytes.
 use mathlib.Core.Path.{_≡_}
 use mathlib.Core.Bool.{cond}
 use mathlib.Core.List.{List, [], _∷_, map}

@@ -1,5 +1,5 @@
 -- What the bytes of an accepted request write or restore, from the bytes alone: the access code, the command's two characters or V1's letter, and
--- what the data spell. No reader of requests or of a setting's data is used here. Assumes nothing.
+-- what the data spell. No reader of requests or of a setting's data is used here.
 use mathlib.Core.Bool.{Bool, true, false, cond, _&&_}
 use mathlib.Core.List.{List, [], _∷_}
 use mathlib.Core.Option.{Option, none, some}

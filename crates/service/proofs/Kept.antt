@@ -1,4 +1,4 @@
--- The part of the memory that `keep` moves, on plain values. Assumes nothing.
+-- The part of the memory that `keep` moves, on plain values.
 use mathlib.Core.Path.{_≡_, refl, sym, ap, _∙_}
 use mathlib.Core.List.{List, [], _∷_}
 use Prim.Native.Nat.{ℕ, zero, suc, _+_, _-_, _≤_, min}

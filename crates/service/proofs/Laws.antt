@@ -1,4 +1,4 @@
--- Laws of splitting, by how many bytes stand before the first CR. Assumes nothing.
+-- Laws of splitting, by how many bytes stand before the first CR.
 use mathlib.Core.Path.{_≡_, refl}
 use mathlib.Core.Bool.{Bool, true, false, cond}
 use mathlib.Core.List.{List, [], _∷_}

@@ -1,5 +1,4 @@
 -- The loop of `serve` on plain values: what holds of the requests answered so far, how one more keeps it, and what it gives at the end.
--- Assumes nothing.
 use mathlib.Core.Path.{_≡_, refl, sym, ap, subst, _∙_}
 use mathlib.Core.List.{List, [], _∷_, _++_, append-assoc, append-nil}
 use Prim.Native.Nat.{ℕ, _+_, _-_, _<_, _≤_}

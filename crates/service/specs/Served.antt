@@ -1,4 +1,4 @@
--- What serving promises: the frames answered in order by the gauge's rule, and the end that is kept. Assumes nothing.
+-- What serving promises: the frames answered in order by the gauge's rule, and the end that is kept.
 use mathlib.Core.Path.{_≡_}
 use mathlib.Core.List.{List, [], _∷_, _++_}
 use Prim.Native.Nat.{ℕ, _+_, _-_}

@@ -1,4 +1,4 @@
--- Bytes split into frames, each up to and with its CR, and an unfinished end. Assumes nothing.
+-- Bytes split into frames, each up to and with its CR, and an unfinished end.
 use mathlib.Core.Bool.{cond}
 use mathlib.Core.List.{List, [], _∷_}
 use Prim.Native.Nat.{ℕ}

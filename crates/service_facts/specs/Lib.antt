@@ -1,7 +1,5 @@
--- Theorems on serving a stream of bytes.
-pub mod Long
+-- Serving a stream of bytes: Cut and Stream have the words, Calls calls of `service::serve`; Theorems says what holds.
 pub mod Cut
 pub mod Stream
-pub mod Delivered
-pub mod Room
-pub mod Called
+pub mod Calls
+pub mod Theorems

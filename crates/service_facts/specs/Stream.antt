@@ -1,11 +1,12 @@
--- A stream of bytes that comes in deliveries, and what a server of it keeps between them. Assumes nothing.
+-- A stream of bytes that comes in deliveries, and what a server of it keeps between them.
+use mathlib.Core.Path.{_≡_}
 use mathlib.Core.List.{List, [], _∷_, _++_, foldl}
 use Prim.Native.Nat.{ℕ}
 use lib.ListN.{take}
 use Rattle.gauge_rules.specs.State.{State}
 use Rattle.gauge_table.specs.Table.{answerRoom}
 use Rattle.gauge_table.specs.After.{answerOf, nextOf}
-use Rattle.service.specs.Split.{framesOf, unfinishedOf}
+use Rattle.service.specs.Split.{Split, framesOf, unfinishedOf}
 use Rattle.service.specs.Served.{mostKept}
 
 -- the replies to frames one after another, each answered in the state that the last one left; and the state afterwards
@@ -39,3 +40,9 @@ deliverAll g parts = foldl deliver (record { state = g; kept = []; replies = [] 
 -- the whole stream at once
 abbrev pub served : State → List ℕ → Progress
 served g s = record { state = stateAfter g (framesOf s); kept = take mostKept (unfinishedOf s); replies = repliesTo g (framesOf s) }
+
+-- two ways to split that a server cannot tell apart: the same replies, the same state, and the same bytes are kept
+pub record Alike (a b : Split) : Type 0 where
+  pub state : (g : State) → stateAfter g (a .frames) ≡ stateAfter g (b .frames)
+  pub replies : (g : State) → repliesTo g (a .frames) ≡ repliesTo g (b .frames)
+  pub kept : take mostKept (a .unfinished) ≡ take mostKept (b .unfinished)

@@ -1,5 +1,5 @@
 -- A step of a run is the contracts of `serve` and `keep` as the prover reads them off the source (`Learnt`), and nothing else. Neither function has
--- a `requires` (`Asked`). a is the arguments, r the result, x the parameters at exit. Assumes nothing.
+-- a `requires` (`Asked`). a is the arguments, r the result, x the parameters at exit.
 use mathlib.Core.Path.{_≡_}
 use mathlib.Core.List.{List, _∷_, _++_}
 use Prim.Native.Nat.{ℕ, _+_, _≤_}
@@ -11,19 +11,19 @@ use lib.ListN.{length, take, drop}
 use Rattle.gauge_rules.specs.declared.Gauge.{Gauge}
 use Rattle.gauge_table.specs.Table.{answerRoom}
 use Rattle.sequence_facts.specs.Sequence.{History, Trace}
-use Rattle.service_sequence_facts.specs.Calls.{Serving}
-use Rattle.service_sequence_facts.specs.Run.{AnswersAll, last, call, Run, piece}
-use Rattle.service_sequence_facts.specs.OneCall.{one-call}
 use Rattle.service.proofs.serve.Kinds as serve-kinds
 use Rattle.service.proofs.serve.Reads as serve-reads
 use Rattle.service.proofs.keep.Kinds as keep-kinds
 use Rattle.service.proofs.keep.Reads as keep-reads
+use Rattle.service_sequence_facts.specs.Calls.{Serving}
+use Rattle.service_sequence_facts.specs.Run.{AnswersAll, last, call, Run, piece}
+use Rattle.service_sequence_facts.proofs.OneCall.{serving}
 
 module _ (κs : Lfts 2) (a : Dens κs serve-kinds.ps) (r : resT serve-kinds.r κs .Denot) (x : AtExit (endedOf 2 serve-kinds.ps serve-kinds.r) κs)
     (contract : serve-reads.Learnt κs a r x) where
   -- one call is a sequence of requests
   pub serve-step : {h : History} → Trace h (a .0) → Serving h (now (a .1 .0)) (now (a .1 .1 .0)) (now (x .1 .1 .0)) r
-  serve-step t = one-call t (contract .0)
+  serve-step t = serving t (contract .0)
 
   pub last-step : answerRoom ≤ length (now (a .1 .1 .0)) → r .taken ≡ 0 → AnswersAll (a .0) (now (a .1 .0)) (r .gauge) 0 (take (r .len) (now (x .1 .1 .0)))
   last-step room e = last room (contract .0) e

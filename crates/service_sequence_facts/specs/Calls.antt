@@ -1,4 +1,4 @@
--- What one call of `service::serve` is, as a sequence of requests to the gauge. Assumes nothing.
+-- What one call of `service::serve` is, as a sequence of requests to the gauge.
 use mathlib.Core.Path.{_≡_}
 use mathlib.Core.List.{List, [], _∷_, _++_, flatten}
 use Prim.Native.Nat.{ℕ, _-_, _≤_}
@@ -7,25 +7,25 @@ use Rattle.gauge_table.specs.Table.{answerRoom}
 use Rattle.service.specs.Split.{framesOf}
 use Rattle.service.specs.declared.Served.{Served}
 use Rattle.history.specs.Latest.{Each}
-use Rattle.sequence_facts.specs.Sequence.{Exchange, asked, set, lined, History, Trace, Claim}
+use Rattle.sequence_facts.specs.Sequence.{Exchange, asked, benchSet, lined, History, Trace}
 
 -- the requests of a history, in the order in which they were made, and their replies one after another
 unfoldable pub requestsOf : History → List (List ℕ)
 requestsOf [] = []
 requestsOf (asked s before number len after ∷ h) = requestsOf h ++ (s ∷ [])
-requestsOf (set b number ∷ h) = requestsOf h
+requestsOf (benchSet b number ∷ h) = requestsOf h
 requestsOf (lined before number len after ∷ h) = requestsOf h
 
 unfoldable pub repliesOf : History → List ℕ
 repliesOf [] = []
 repliesOf (asked s before number len after ∷ h) = repliesOf h ++ take len after
-repliesOf (set b number ∷ h) = repliesOf h
+repliesOf (benchSet b number ∷ h) = repliesOf h
 repliesOf (lined before number len after ∷ h) = repliesOf h
 
 -- a request that was lent what the replies before it left of this memory: as much as an answer asks for
 abbrev pub Lent : List ℕ → History → Exchange → Type 0
 Lent memory earlier (asked s before number len after) = (before ≡ drop (length (repliesOf earlier)) memory) × (answerRoom ≤ length before)
-Lent memory earlier (set b number) = ⊥
+Lent memory earlier (benchSet b number) = ⊥
 Lent memory earlier (lined before number len after) = ⊥
 
 -- A gauge that had the calls h was given these bytes and the memory `before`, and `serve` came back with r and left the memory `after`: that is a

@@ -1,17 +1,17 @@
--- A stream of bytes that comes in pieces, served by calls of `service::serve` and `keep`, and what is claimed of it. Assumes nothing.
+-- A stream of bytes that comes in pieces, served by calls of `service::serve` and `keep`, and what is claimed of it.
 use mathlib.Core.Path.{_≡_}
 use mathlib.Core.List.{List, [], _∷_, _++_}
-use Prim.Native.Nat.{ℕ, _+_, _≤_, _<_}
+use Prim.Native.Nat.{ℕ, _+_, _≤_}
 use lib.ListN.{length, take, drop}
 use Rattle.gauge_rules.specs.State.{State, stateOf}
 use Rattle.gauge_rules.specs.declared.Gauge.{Gauge}
 use Rattle.gauge_table.specs.Table.{answerRoom}
-use Rattle.service.specs.Split.{framesOf, unfinishedOf}
+use Rattle.service.specs.Split.{framesOf}
 use Rattle.service.specs.Served.{Serves, mostKept, Keeps}
 use Rattle.service.specs.declared.Served.{Served}
 use Rattle.service_facts.specs.Stream.{served}
 use Rattle.history.specs.Latest.{Each}
-use Rattle.sequence_facts.specs.Sequence.{Exchange, asked, set, lined, History, Trace, Claim}
+use Rattle.sequence_facts.specs.Sequence.{Exchange, asked, benchSet, lined, History, Trace, Claim}
 use Rattle.service_sequence_facts.specs.Calls.{requestsOf, repliesOf}
 
 -- ---- a run
@@ -33,6 +33,13 @@ pub data Run (h : History) (g₀ : Gauge) : List (List ℕ) → Gauge → List �
       → take end memory ≡ kept ++ bytes → AnswersAll g (take end memory) g′ taken new → Keeps memory taken end memory′ n
       → Run h g₀ (bytes ∷ parts) g′ (take n memory′) (written ++ new)
 
+-- there is a run on these pieces
+pub record HasRun (h : History) (g₀ : Gauge) (parts : List (List ℕ)) : Type 0 where
+  pub gauge : Gauge
+  pub kept : List ℕ
+  pub written : List ℕ
+  pub run : Run h g₀ parts gauge kept written
+
 -- ---- the claim
 
 -- all bytes that came, in order
@@ -50,7 +57,7 @@ pub data Same : List (List ℕ) → List (List ℕ) → Type 0 where
 -- a request, lent as much as an answer asks for
 abbrev pub Request : Exchange → Type 0
 Request (asked s before number len after) = answerRoom ≤ length before
-Request (set b number) = ⊥
+Request (benchSet b number) = ⊥
 Request (lined before number len after) = ⊥
 
 -- The stream in any pieces is a sequence of calls: there is a history of requests, and no other calls, after which the gauge stands, so it has the

@@ -1,4 +1,7 @@
 -- Document 01, "Settings and readings, V2": the settings, their limits and factory values, and the texts that reads send.
+-- Theorems has the length of the longest line.
 pub mod Limits
 pub mod Settings
 pub mod Sent
+pub mod Theorems
+pub mod Units

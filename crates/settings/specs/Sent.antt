@@ -1,4 +1,4 @@
--- The texts that V2 reads of settings send. Assumes nothing.
+-- The texts that V2 reads of settings send.
 use mathlib.Core.Bool.{Bool, false, cond}
 use mathlib.Core.List.{List, [], _∷_, _++_}
 use Prim.Native.Nat.{ℕ}

@@ -1,4 +1,4 @@
--- The settings: what they hold, factory values, and what a write or a restore changes. Assumes nothing.
+-- The settings: what they hold, factory values, and what a write or a restore changes.
 use mathlib.Core.Bool.{Bool, false}
 use mathlib.Core.List.{List, []}
 use Prim.Native.Nat.{ℕ}

@@ -5,7 +5,10 @@ ghost use mathlib.Core.List.{[], _∷_};
 ghost use Rattle.buffer.specs.Text.{textOf};
 ghost use Rattle.buffer.specs.Byte.{digit, digits3};
 ghost use Rattle.sources.specs.Source.{listOf, Counted};
+ghost use Rattle.settings.specs.Limits.{isFactor};
 ghost use Rattle.settings.specs.Settings.{held, factory, keyOf, factoryOf, bothOf, putOf, restoreOf};
+ghost use Rattle.settings.specs.declared.NamedUnit.{NamedUnit};
+ghost use Rattle.settings.specs.Units.{unitCode, unitNamed};
 ghost use Rattle.settings.specs.Sent.{unitText, transitionText, streamText, readText};
 
 // The unit of pressure, DU.
@@ -13,6 +16,21 @@ pub enum PressureUnit {
     Mbar,
     Torr,
     HPa,
+}
+
+impl PressureUnit {
+    // The texts of the units.
+    pub const MBAR_TEXT: [u8; 4] = [b'm', b'b', b'a', b'r'];
+
+    pub const TORR_TEXT: [u8; 4] = [b'T', b'o', b'r', b'r'];
+
+    pub const HPA_TEXT: [u8; 3] = [b'h', b'P', b'a'];
+}
+
+// What a number of V1 names: a unit, or none.
+pub enum NamedUnit {
+    Unit(PressureUnit),
+    None,
 }
 
 // The transition of ST: a direct switch, or one between two ends.
@@ -120,6 +138,13 @@ impl Settings {
             count: 0,
         },
     };
+
+    // Whether a factor, in hundredths, lies within its limits.
+    pub fn is_factor(n: u32) -> bool
+        ensures { λ r. ⌜ r ≡ isFactor n ⌝ }
+    {
+        Settings::FACTOR_MIN as u32 <= n && n <= Settings::FACTOR_MAX as u32
+    }
 
     // The settings as they leave the works.
     pub fn at_factory() -> Settings
@@ -268,17 +293,40 @@ pub fn unit_text(unit: PressureUnit) -> buffer::Text
 {
     match unit {
         PressureUnit::Mbar => {
-            let t = [b'm', b'b', b'a', b'r'];
+            let t = PressureUnit::MBAR_TEXT;
             buffer::Text::EMPTY.add(&t)
         }
         PressureUnit::Torr => {
-            let t = [b'T', b'o', b'r', b'r'];
+            let t = PressureUnit::TORR_TEXT;
             buffer::Text::EMPTY.add(&t)
         }
         PressureUnit::HPa => {
-            let t = [b'h', b'P', b'a'];
+            let t = PressureUnit::HPA_TEXT;
             buffer::Text::EMPTY.add(&t)
         }
+    }
+}
+
+// V1's number of a unit.
+pub fn unit_number(unit: PressureUnit) -> u32
+    ensures { λ r. ⌜ r ≡ unitCode unit ⌝ }
+{
+    match unit {
+        PressureUnit::Mbar => 0,
+        PressureUnit::Torr => 1,
+        PressureUnit::HPa => 2,
+    }
+}
+
+// The unit that one of V1's numbers names, or none.
+pub fn unit_named(n: u32) -> NamedUnit
+    ensures { λ r. ⌜ r ≡ unitNamed NamedUnit.Unit NamedUnit.None n ⌝ }
+{
+    match n {
+        0 => NamedUnit::Unit(PressureUnit::Mbar),
+        1 => NamedUnit::Unit(PressureUnit::Torr),
+        2 => NamedUnit::Unit(PressureUnit::HPa),
+        _ => NamedUnit::None,
     }
 }
 

@@ -1,4 +1,4 @@
--- Laws of sources, and of texts cut at each `D`. Assumes nothing.
+-- Laws of sources, and of texts cut at each `D`.
 use mathlib.Core.Path.{_≡_, refl, sym, _∙_}
 use mathlib.Core.Bool.{Bool, true, false, cond, _&&_, _||_}
 use mathlib.Core.List.{List, [], _∷_}

@@ -1,4 +1,4 @@
--- A text of entries, read from the front: what was read so far. Assumes nothing.
+-- A text of entries, read from the front: what was read so far.
 use mathlib.Core.Path.{_≡_, sym, ap, _∙_}
 use mathlib.Core.Bool.{_&&_, and-assoc, and-true}
 use mathlib.Core.List.{List, [], _∷_, _++_, map, append-assoc, append-nil}

@@ -1,4 +1,4 @@
--- A text of entries, "each entry is `D` and a source". Assumes nothing.
+-- A text of entries, "each entry is `D` and a source".
 use mathlib.Core.Path.{_≡_}
 use mathlib.Core.Bool.{Bool, true, false, cond, not, _||_}
 use mathlib.Core.List.{List, [], _∷_, map}

@@ -1,4 +1,4 @@
--- What inner functions promise; no public contract cites this file. Assumes nothing.
+-- What inner functions promise; no public contract cites this file.
 use mathlib.Core.Path.{_≡_}
 use mathlib.Core.Bool.{_&&_}
 use mathlib.Core.List.{List, map}

@@ -1,4 +1,4 @@
--- Sources and their texts. Assumes nothing.
+-- Sources and their texts.
 use mathlib.Core.Path.{_≡_}
 use mathlib.Core.Bool.{Bool, false, _&&_, _||_, not}
 use mathlib.Core.List.{List, [], _∷_, _++_}

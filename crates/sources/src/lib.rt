@@ -3,8 +3,9 @@ ghost use mathlib.Core.Path.{_≡_};
 ghost use mathlib.Core.List.{[], _∷_, _++_};
 ghost use Prim.Native.Nat.{_+_, _^_, _<_};
 ghost use lib.ListN.{length};
+ghost use Rattle.buffer.specs.Byte.{every};
 ghost use Rattle.buffer.specs.Text.{textOf, cut};
-ghost use Rattle.sources.specs.Source.{knownSources, sourceOf, sourceText, listOf, Counted, Pushed, listText};
+ghost use Rattle.sources.specs.Source.{knownSources, among, sourceOf, sourceText, listOf, Counted, Pushed, listText};
 ghost use Rattle.sources.specs.Entries.{opens, Lists};
 ghost use Rattle.sources.specs.Inner.{Taken, Ran};
 
@@ -54,6 +55,54 @@ impl Sources {
         }
         Sources::MOST
     }
+}
+
+// Whether a code is one of the gauge's sources.
+pub fn is_code(c: u8) -> bool
+    ensures { λ r. ⌜ r ≡ among knownSources c ⌝ }
+{
+    if c == 0 {
+        return true;
+    }
+    if c == 1 {
+        return true;
+    }
+    if c == 2 {
+        return true;
+    }
+    if c == 6 {
+        return true;
+    }
+    if c == 7 {
+        return true;
+    }
+    if c == 8 {
+        return true;
+    }
+    c == 9
+}
+
+// Whether each code of a list is one of the gauge's sources.
+fn all_codes(codes: &[u8]) -> bool
+    ensures { λ r. ⌜ r ≡ every (among knownSources) (now (codes .entry)) ⌝ }
+{
+    let mut i: usize = 0;
+    while i < codes.len() {
+        if !is_code(codes[i]) {
+            return false;
+        }
+        i += 1;
+    }
+    true
+}
+
+// Whether each source of a list is one of the gauge's.
+pub fn all_known(q: Sources) -> bool
+    ensures { λ r. ⌜ r ≡ every (among knownSources) (listOf q) ⌝ }
+{
+    let codes = q.codes;
+    let n = q.size();
+    all_codes(&codes[..n])
 }
 
 // A source of one character.

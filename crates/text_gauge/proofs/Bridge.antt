@@ -1,4 +1,4 @@
--- From a typed request, decided, to the table: the same answer and the same state afterwards. Assumes nothing.
+-- From a typed request, decided, to the table: the same answer and the same state afterwards.
 use mathlib.Core.Path.{_≡_, refl, sym}
 use mathlib.Core.Bool.{Bool, true, false, cond, _&&_, and-false}
 use mathlib.Core.List.{List}
@@ -17,7 +17,7 @@ use Rattle.frames.specs.declared.HeadV2.{HeadV2}
 use Rattle.forms.specs.Judged.{verdictOf}
 use Rattle.forms.specs.Forms.{digitData}
 use Rattle.forms.specs.declared.Digit.{Digit}
-use Rattle.forms.specs.declared.Digit.the-variants.{Is, Isnt}
+use Rattle.forms.specs.declared.Digit.the-variants.{Is}
 use Rattle.forms.specs.declared.Verdict.{Verdict}
 use Rattle.forms.specs.declared.Verdict.the-variants as verdict
 use Rattle.requests.specs.Command.{commandOf}
@@ -31,19 +31,16 @@ use Rattle.requests.specs.declared.RequestV2.{RequestV2}
 use Rattle.requests.specs.declared.RequestV1.{RequestV1}
 use Rattle.requests.specs.declared.RequestV1.the-variants.{Measure, ReadFactor, Unlock, SetFactor, ReadUnit, SetUnit}
 use Rattle.requests.specs.declared.AskV2.{AskV2}
-use Rattle.requests.specs.declared.AskV2.the-variants.{For, Refused}
 use Rattle.requests.specs.declared.AskV1.{AskV1}
-use Rattle.requests.specs.declared.AskV1.the-variants.{Asks, Denied}
-use Rattle.requests_facts.specs.Data.{refused-data}
-use Rattle.gauge_rules.specs.State.{State}
+use Rattle.requests_facts.proofs.Data.{refused-data}
+use Rattle.gauge_rules.specs.State.{State, settled, unlockedAs}
 use Rattle.gauge_rules.specs.RulesV2.{grantV2}
 use Rattle.gauge_rules_v1.specs.RulesV1.{factorNumber, grantV1}
 use Rattle.gauge_table.specs.Asked.{askedV2, askedV1}
 use Rattle.gauge_table.specs.Table.{numberOf}
 use Rattle.gauge_table.specs.Reply.{errorV2, acceptedV2, acceptedV1, replyOf}
 use Rattle.gauge_table.specs.After.{answerOf, enteredV2, enteredV1, asksUnlock, afterwards, nextOf}
-use Rattle.gauge_table.specs.DecidedV2.{decidedV2}
-use Rattle.gauge_table.specs.DecidedV1.{decidedV1}
+use Rattle.gauge_table.specs.Decided.{decidedV2, decidedV1}
 use Rattle.text_gauge.specs.Inner.{answerV2, nextV2, answerV1, nextV1}
 
 -- ---- what is not silent: 0, or 6 and above
@@ -71,8 +68,8 @@ grant-v1-loud g (SetUnit u) = inl refl
 
 -- a refusal of what a V2 frame asks is 6 or above
 LateV2 : AskV2 → Type 0
-LateV2 (For r) = Unit {0}
-LateV2 (Refused k) = 6 ≤ k
+LateV2 (AskV2.Asks r) = Unit {0}
+LateV2 (AskV2.Refused k) = 6 ≤ k
 
 late-set : (v : Verdict) → ((k : ℕ) → v ≡ verdict.Refused k → (k ≡ 10) ⊎ ((k ≡ 11) ⊎ (k ≡ 12))) → LateV2 (setOf v)
 unfolding setOf LateV2
@@ -107,8 +104,8 @@ late-v2 h d = each LateV2 _ _ _ (λ _. omega arith) (λ _. late-named (h .access
 
 -- and of what a V1 frame asks
 LateV1 : AskV1 → Type 0
-LateV1 (Asks r) = Unit {0}
-LateV1 (Denied k) = 6 ≤ k
+LateV1 (AskV1.Asks r) = Unit {0}
+LateV1 (AskV1.Refused k) = 6 ≤ k
 
 late-bare : (d : List ℕ) (r : RequestV1) → LateV1 (bareOf d r)
 unfolding bareOf LateV1
@@ -116,7 +113,7 @@ late-bare d r = each LateV1 _ _ _ (λ _. omega arith) (λ _. tt)
 
 abbrev LateDigit : Digit → Type 0
 LateDigit (Is v) = Unit {0}
-LateDigit (Isnt k) = 6 ≤ k
+LateDigit (Digit.Refused k) = 6 ≤ k
 
 late-digit : (d : List ℕ) → LateDigit (digitData 9 d)
 unfolding digitData
@@ -125,7 +122,7 @@ late-digit d = each LateDigit _ _ _ (λ _. omega arith) (λ _. each LateDigit _ 
 late-one : (v : Digit) (r : RequestV1) → LateDigit v → LateV1 (digitOne v r)
 unfolding digitOne LateV1
 late-one (Is v) r h = each LateV1 _ _ _ (λ _. omega arith) (λ _. tt)
-late-one (Isnt k) r h = h
+late-one (Digit.Refused k) r h = h
 
 late-unit : (n : ℕ) → LateV1 (unitAt n)
 unfolding unitAt LateV1
@@ -157,23 +154,23 @@ whole a k t e f = rw (sym e, f)
 module _ (g : State) (s : List ℕ) (l : isLetter (at s 3) ≡ false) where
   reply-v2 : (ask : AskV2) → LateV2 ask → askedV2 s ≡ ask → replyOf g s (decidedV2 g ask) ≡ answerV2 g (headV2 s) ask .reply
   unfolding replyOf answerV2 acceptedV2 decidedV2 LateV2 Loud pick
-  reply-v2 (For r) h e = rw (loud-within (grantV2 g r) (grant-v2-loud g r), l, e)
-  reply-v2 (Refused k) h e = rw (loud-within k (inr h), l, ne-eqb k 0 (λ z. omega arith))
+  reply-v2 (AskV2.Asks r) h e = rw (loud-within (grantV2 g r) (grant-v2-loud g r), l, e)
+  reply-v2 (AskV2.Refused k) h e = rw (loud-within k (inr h), l, ne-eqb k 0 (λ z. omega arith))
 
   after-v2 : (ask : AskV2) → LateV2 ask → askedV2 s ≡ ask → afterwards g s (decidedV2 g ask) ≡ nextV2 g (askList (headV2 s) (dataFrom 8 s)) ask
   unfolding afterwards enteredV2 decidedV2 nextV2 LateV2 pick
-  after-v2 (For r) h e = rw (l, e) (go (eqb (grantV2 g r) 0))
+  after-v2 (AskV2.Asks r) h e = rw (l, e) (go (eqb (grantV2 g r) 0))
     where
-      go : (b : Bool) → _≡_ {A = State} (record { settings = cond b (enteredV2 (g .settings) (askList (headV2 s) (dataFrom 8 s)) (For r)) (g .settings); readings = g .readings; unlocked = g .unlocked })
-          (pick b (record { settings = enteredV2 (g .settings) (askList (headV2 s) (dataFrom 8 s)) (For r); readings = g .readings; unlocked = g .unlocked }) g)
+      go : (b : Bool) → _≡_ {A = State} (settled g (cond b (enteredV2 (g .settings) (askList (headV2 s) (dataFrom 8 s)) (AskV2.Asks r)) (g .settings)))
+          (pick b (settled g (enteredV2 (g .settings) (askList (headV2 s) (dataFrom 8 s)) (AskV2.Asks r))) g)
       go true = refl
       go false = refl
-  after-v2 (Refused k) h e = rw (l, ne-eqb k 0 (λ z. omega arith))
+  after-v2 (AskV2.Refused k) h e = rw (l, ne-eqb k 0 (λ z. omega arith))
 
   number-of-v2 : (ask : AskV2) → answerV2 g (headV2 s) ask .number ≡ decidedV2 g ask
   unfolding answerV2 decidedV2
-  number-of-v2 (For r) = refl
-  number-of-v2 (Refused k) = refl
+  number-of-v2 (AskV2.Asks r) = refl
+  number-of-v2 (AskV2.Refused k) = refl
 
   pub table-v2 : (room : ℕ) → numberOf g room s ≡ decidedV2 g (askedV2 s) → (answerOf g room s ≡ answerV2 g (headV2 s) (askedV2 s)) × (nextOf g room s ≡ nextV2 g (askList (headV2 s) (dataFrom 8 s)) (askedV2 s))
   unfolding answerOf nextOf
@@ -191,25 +188,25 @@ module _ (g : State) (s : List ℕ) (l : isLetter (at s 3) ≡ false) where
 module _ (g : State) (s : List ℕ) (l : isLetter (at s 3) ≡ true) where
   reply-v1 : (ask : AskV1) → LateV1 ask → askedV1 s ≡ ask → replyOf g s (decidedV1 g ask) ≡ answerV1 g s (headV1 s) ask .reply
   unfolding replyOf answerV1 acceptedV1 decidedV1 LateV1 Loud pick
-  reply-v1 (Asks r) h e = rw (loud-within (grantV1 g r) (grant-v1-loud g r), l, e)
-  reply-v1 (Denied k) h e = rw (loud-within k (inr h), l, ne-eqb k 0 (λ z. omega arith))
+  reply-v1 (AskV1.Asks r) h e = rw (loud-within (grantV1 g r) (grant-v1-loud g r), l, e)
+  reply-v1 (AskV1.Refused k) h e = rw (loud-within k (inr h), l, ne-eqb k 0 (λ z. omega arith))
 
   granted : (r : RequestV1) (b : Bool)
-      → _≡_ {A = State} (record { settings = cond b (enteredV1 (g .settings) (Asks r)) (g .settings); readings = g .readings; unlocked = b && asksUnlock (Asks r) })
-      (pick b (record { settings = enteredV1 (g .settings) (Asks r); readings = g .readings; unlocked = asksUnlock (Asks r) }) (record { settings = g .settings; readings = g .readings; unlocked = false }))
+      → _≡_ {A = State} (unlockedAs (settled g (cond b (enteredV1 (g .settings) (AskV1.Asks r)) (g .settings))) (b && asksUnlock (AskV1.Asks r)))
+      (pick b (unlockedAs (settled g (enteredV1 (g .settings) (AskV1.Asks r))) (asksUnlock (AskV1.Asks r))) (unlockedAs g false))
   unfolding pick
   granted r true = refl
   granted r false = refl
 
   after-v1 : (ask : AskV1) → LateV1 ask → askedV1 s ≡ ask → afterwards g s (decidedV1 g ask) ≡ nextV1 g ask
   unfolding afterwards enteredV1 asksUnlock decidedV1 nextV1 LateV1 Loud
-  after-v1 (Asks r) h e = rw (l, e, loud-within (grantV1 g r) (grant-v1-loud g r)) (granted r (eqb (grantV1 g r) 0))
-  after-v1 (Denied k) h e = rw (l, loud-within k (inr h), ne-eqb k 0 (λ z. omega arith))
+  after-v1 (AskV1.Asks r) h e = rw (l, e, loud-within (grantV1 g r) (grant-v1-loud g r)) (granted r (eqb (grantV1 g r) 0))
+  after-v1 (AskV1.Refused k) h e = rw (l, loud-within k (inr h), ne-eqb k 0 (λ z. omega arith))
 
   number-of-v1 : (ask : AskV1) → answerV1 g s (headV1 s) ask .number ≡ decidedV1 g ask
   unfolding answerV1 decidedV1
-  number-of-v1 (Asks r) = refl
-  number-of-v1 (Denied k) = refl
+  number-of-v1 (AskV1.Asks r) = refl
+  number-of-v1 (AskV1.Refused k) = refl
 
   pub table-v1 : (room : ℕ) → numberOf g room s ≡ decidedV1 g (askedV1 s) → (answerOf g room s ≡ answerV1 g s (headV1 s) (askedV1 s)) × (nextOf g room s ≡ nextV1 g (askedV1 s))
   unfolding answerOf nextOf

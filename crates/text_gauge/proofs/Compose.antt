@@ -1,4 +1,4 @@
--- The parts of an answer, put together. Assumes nothing.
+-- The parts of an answer, put together.
 use mathlib.Core.Path.{_≡_, sym, ap, _∙_}
 use mathlib.Core.Bool.{Bool, true, false, not}
 use mathlib.Core.List.{List, []}
@@ -17,9 +17,9 @@ use Rattle.frames.specs.declared.HeadV1.{HeadV1}
 use Rattle.frames.specs.declared.HeadV2.{HeadV2}
 use Rattle.frames.specs.declared.Frame.{Frame}
 use Rattle.frame_writer.specs.Written.{frameV1, frameV2}
-use Rattle.frames_facts.specs.ReadBack.{SendableV1, SendableV2}
-use Rattle.frames_facts.specs.Shape.{Framed, Tells, tells}
-use Rattle.frames_facts.specs.Exactly.{head-read-v1, head-read-v2}
+use Rattle.frame_writer.specs.Sendable.{SendableV1, SendableV2}
+use Rattle.frames_facts.proofs.Shape.{Framed, Tells, tells}
+use Rattle.frames_facts.proofs.Exactly.{head-read-v1, head-read-v2}
 use Rattle.settings.specs.Settings.{held}
 use Rattle.settings.specs.declared.Settings.{Settings}
 use Rattle.requests.specs.AskV2.{askV2, askList}
@@ -27,16 +27,14 @@ use Rattle.requests.specs.AskV1.{askV1}
 use Rattle.requests.specs.declared.RequestV2.{RequestV2}
 use Rattle.requests.specs.declared.RequestV1.{RequestV1}
 use Rattle.requests.specs.declared.AskV2.{AskV2}
-use Rattle.requests.specs.declared.AskV2.the-variants.{For, Refused}
 use Rattle.requests.specs.declared.AskV1.{AskV1}
-use Rattle.requests.specs.declared.AskV1.the-variants.{Asks, Denied}
-use Rattle.gauge_rules.specs.State.{State, stateOf}
+use Rattle.gauge_rules.specs.State.{State, stateOf, settled, unlockedAs}
 use Rattle.gauge_rules.specs.RulesV2.{answerCode, grantV2, textV2, enterV2}
 use Rattle.gauge_rules_v1.specs.RulesV1.{grantV1, textV1, repeats, unlocks, settingsV1}
 use Rattle.gauge_rules.specs.declared.Gauge.{Gauge}
 use Rattle.gauge_table.specs.Table.{answerRoom, otherAddress, numberOf}
 use Rattle.gauge_table.specs.Reply.{errorV2, errorV1, answerHead}
-use Rattle.gauge_table.specs.Numbers.{Numbered, numbered, number-6, number-v1, number-v2}
+use Rattle.gauge_table.proofs.Numbers.{Numbered, numbered, number-6, number-v1, number-v2}
 use Rattle.text_gauge.specs.Answer.{Answers}
 use Rattle.text_gauge.specs.Inner.{Fits, answerV2, nextV2, answerV1, nextV1, AnswersV2, AnswersV1}
 use Rattle.text_gauge.specs.declared.Answered.{Answered}
@@ -49,47 +47,48 @@ Made gauge w r = (r .gauge ≡ gauge) × (r .written ≡ w)
 -- ---- V2: a typed request
 
 module _ (gauge : Gauge) (h : HeadV2) (ask : AskV2) (list m m′ : List ℕ) (w : Written) (r : Answered) where
-  pub refused-v2 : (k : ℕ) → ask ≡ Refused k → Made gauge w r → Sent m (record { number = k; reply = errorV2 k h }) m′ w → AnswersV2 (stateOf gauge) h ask list m m′ r
+  pub refused-v2 : (k : ℕ) → ask ≡ AskV2.Refused k → Made gauge w r → Sent m (record { number = k; reply = errorV2 k h }) m′ w → AnswersV2 (stateOf gauge) h ask list m m′ r
   unfolding answerV2 nextV2
   refused-v2 k e f s = rw e (record { sent = rw (f .1) s; state = ap stateOf (f .0) })
 
-  pub denied-v2 : (q : RequestV2) (n : ℕ) → ask ≡ For q → n ≡ grantV2 (stateOf gauge) q → (n ≡ 0 → ⊥) → Made gauge w r → Sent m (record { number = n; reply = errorV2 n h }) m′ w
+  pub denied-v2 : (q : RequestV2) (n : ℕ) → ask ≡ AskV2.Asks q → n ≡ grantV2 (stateOf gauge) q → (n ≡ 0 → ⊥) → Made gauge w r → Sent m (record { number = n; reply = errorV2 n h }) m′ w
       → AnswersV2 (stateOf gauge) h ask list m m′ r
   unfolding answerV2 nextV2 pick
   denied-v2 q n e g z f s =
       let z0 : eqb (grantV2 (stateOf gauge) q) 0 ≡ false = ne-eqb _ 0 (λ o. z (g ∙ o)) in
       rw e (record { sent = rw (f .1, z0, ← g) s; state = rw z0 (ap stateOf (f .0)) })
 
-pub granted-v2 : (gauge : Gauge) (h : HeadV2) (ask : AskV2) (list m m′ : List ℕ) (w : Written) (q : RequestV2) (n code : ℕ) (text : List ℕ) (s : Settings) → ask ≡ For q → n ≡ grantV2 (stateOf gauge) q → n ≡ 0
+pub granted-v2 : (gauge : Gauge) (h : HeadV2) (ask : AskV2) (list m m′ : List ℕ) (w : Written) (q : RequestV2) (n code : ℕ) (text : List ℕ) (s : Settings) (after : Gauge) → ask ≡ AskV2.Asks q → n ≡ grantV2 (stateOf gauge) q → n ≡ 0
     → code ≡ answerCode q → text ≡ textV2 (stateOf gauge) q → Sent m (record { number = 0; reply = frameV2 (answerHead h code) text }) m′ w → held s ≡ enterV2 (held (gauge .settings)) q list
-    → AnswersV2 (stateOf gauge) h ask list m m′ (record { gauge = record { settings = s; readings = gauge .readings; unlocked = gauge .unlocked }; written = w })
+    → stateOf after ≡ settled (stateOf gauge) (held s) → AnswersV2 (stateOf gauge) h ask list m m′ (record { gauge = after; written = w })
 unfolding answerV2 nextV2 pick
-granted-v2 gauge h ask list m m′ w q n code text s e g z c t f k =
+granted-v2 gauge h ask list m m′ w q n code text s after e g z c t f k a =
     let z0 : grantV2 (stateOf gauge) q ≡ 0 = sym g ∙ z in
-    rw e (record { sent = rw z0 (rw (c, t) at f); state = rw (z0, k) })
+    rw e (record { sent = rw z0 (rw (c, t) at f); state = a ∙ rw (z0, k) })
 
 -- ---- V1: a typed request
 
-module _ (gauge : Gauge) (s : List ℕ) (h : HeadV1) (ask : AskV1) (m m′ : List ℕ) (w : Written) (r : Answered) where
-  pub refused-v1 : (k : ℕ) → ask ≡ Denied k → Made (record { settings = gauge .settings; readings = gauge .readings; unlocked = false }) w r → Sent m (record { number = k; reply = errorV1 k h }) m′ w
+module _ (gauge : Gauge) (s : List ℕ) (h : HeadV1) (ask : AskV1) (m m′ : List ℕ) (w : Written) (r : Answered) (locked : Gauge) (l : stateOf locked ≡ unlockedAs (stateOf gauge) false) where
+  pub refused-v1 : (k : ℕ) → ask ≡ AskV1.Refused k → Made locked w r → Sent m (record { number = k; reply = errorV1 k h }) m′ w
       → AnswersV1 (stateOf gauge) s h ask m m′ r
   unfolding answerV1 nextV1
-  refused-v1 k e f t = rw e (record { sent = rw (f .1) t; state = ap stateOf (f .0) })
+  refused-v1 k e f t = rw e (record { sent = rw (f .1) t; state = ap stateOf (f .0) ∙ l })
 
-  pub denied-v1 : (q : RequestV1) (n : ℕ) → ask ≡ Asks q → n ≡ grantV1 (stateOf gauge) q → (n ≡ 0 → ⊥) → Made (record { settings = gauge .settings; readings = gauge .readings; unlocked = false }) w r
+  pub denied-v1 : (q : RequestV1) (n : ℕ) → ask ≡ AskV1.Asks q → n ≡ grantV1 (stateOf gauge) q → (n ≡ 0 → ⊥) → Made locked w r
       → Sent m (record { number = n; reply = errorV1 n h }) m′ w → AnswersV1 (stateOf gauge) s h ask m m′ r
   unfolding answerV1 nextV1 pick
   denied-v1 q n e g z f t =
       let z0 : eqb (grantV1 (stateOf gauge) q) 0 ≡ false = ne-eqb _ 0 (λ o. z (g ∙ o)) in
-      rw e (record { sent = rw (f .1, z0, ← g) t; state = rw z0 (ap stateOf (f .0)) })
+      rw e (record { sent = rw (f .1, z0, ← g) t; state = rw z0 (ap stateOf (f .0) ∙ l) })
 
-pub granted-v1 : (gauge : Gauge) (s : List ℕ) (h : HeadV1) (ask : AskV1) (m m′ : List ℕ) (w : Written) (q : RequestV1) (n : ℕ) (t : Settings) → ask ≡ Asks q → n ≡ grantV1 (stateOf gauge) q → n ≡ 0
+pub granted-v1 : (gauge : Gauge) (s : List ℕ) (h : HeadV1) (ask : AskV1) (m m′ : List ℕ) (w : Written) (q : RequestV1) (n : ℕ) (t : Settings) (entered after : Gauge) → ask ≡ AskV1.Asks q → n ≡ grantV1 (stateOf gauge) q → n ≡ 0
     → Sent m (record { number = 0; reply = pick (repeats q) s (frameV1 h (textV1 (stateOf gauge) q)) }) m′ w → held t ≡ settingsV1 (stateOf gauge) q
-    → (u : Bool) → u ≡ unlocks q → AnswersV1 (stateOf gauge) s h ask m m′ (record { gauge = record { settings = t; readings = gauge .readings; unlocked = u }; written = w })
+    → (u : Bool) → u ≡ unlocks q → stateOf entered ≡ settled (stateOf gauge) (held t) → stateOf after ≡ unlockedAs (stateOf entered) u
+    → AnswersV1 (stateOf gauge) s h ask m m′ (record { gauge = after; written = w })
 unfolding answerV1 nextV1 settingsV1 pick
-granted-v1 gauge s h ask m m′ w q n t e g z f k u v =
+granted-v1 gauge s h ask m m′ w q n t entered after e g z f k u v a b =
     let z0 : grantV1 (stateOf gauge) q ≡ 0 = sym g ∙ z in
-    rw e (record { sent = rw z0 f; state = rw (z0, rw z0 at k, v) })
+    rw e (record { sent = rw z0 f; state = b ∙ (ap (λ (x : State). unlockedAs x u) a ∙ rw (z0, rw z0 at k, v)) })
 
 -- ---- any bytes
 

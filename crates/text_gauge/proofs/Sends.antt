@@ -1,4 +1,4 @@
--- Replies that fit are written whole. Assumes nothing.
+-- Replies that fit are written whole.
 use mathlib.Core.Path.{refl}
 use mathlib.Core.List.{List}
 use Prim.Native.Nat.{ℕ, _≤_}
@@ -11,12 +11,12 @@ use Rattle.frames.specs.declared.HeadV1.{HeadV1}
 use Rattle.frames.specs.declared.HeadV2.{HeadV2}
 use Rattle.frame_writer.specs.Written.{frameV1, frameV2, writtenV1, writtenV2}
 use Rattle.frame_writer.proofs.Laws as laws
-use Rattle.frames_facts.specs.ReadBack.{SendableV1, SendableV2}
-use Rattle.frames_facts.specs.Accepted.{sendable-exactly-v1, sendable-exactly-v2}
+use Rattle.frame_writer.specs.Sendable.{SendableV1, SendableV2}
+use Rattle.frames_facts.proofs.Accepted.{sendable-exactly-v1, sendable-exactly-v2}
 use Rattle.decimal.specs.declared.Number.{Number}
 use Rattle.readings.specs.Measure.{sixOf, roundedText, measureText}
 use Rattle.readings.specs.declared.Pressure.{Pressure}
-use Rattle.readings.specs.declared.Pressure.the-variants.{Measured, Under, Over, Faulty}
+use Rattle.readings.specs.declared.Pressure.the-variants.{Measured, UnderRange, OverRange, Faulty}
 use Rattle.requests.specs.declared.RequestV1.{RequestV1}
 use Rattle.requests.specs.declared.RequestV1.the-variants.{Measure, ReadFactor, Unlock, SetFactor, ReadUnit, SetUnit}
 use Rattle.gauge_rules.specs.State.{State}
@@ -52,8 +52,8 @@ rounded-le n = each Six _ _ _ (λ _. omega arith) (λ _. omega arith)
 measure-le : (p : Pressure) → length (measureText p) ≤ 6
 unfolding measureText sixOf
 measure-le (Measured n) = rounded-le n
-measure-le Under = omega arith
-measure-le Over = omega arith
+measure-le UnderRange = omega arith
+measure-le OverRange = omega arith
 measure-le Faulty = omega arith
 
 pub text-v1-le : (g : State) (r : RequestV1) → length (textV1 g r) ≤ 6

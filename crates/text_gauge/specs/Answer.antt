@@ -1,4 +1,4 @@
--- What the text gauge promises: its answer in lent memory, and its state afterwards. Assumes nothing.
+-- What the text gauge promises: its answer in lent memory, and its state afterwards.
 use mathlib.Core.Path.{_≡_}
 use mathlib.Core.List.{List}
 use Prim.Native.Nat.{ℕ}

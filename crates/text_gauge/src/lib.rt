@@ -4,14 +4,13 @@ ghost use mathlib.Core.Bool.{true};
 ghost use mathlib.Core.List.{[], _∷_};
 ghost use Prim.Native.Nat.{_≤_};
 ghost use lib.ListN.{length};
-ghost use Rattle.buffer.specs.Byte.{isDigit};
+ghost use Rattle.buffer.specs.Byte.{isDigit, Printed};
 ghost use Rattle.buffer.specs.Text.{textOf};
 ghost use Rattle.buffer.specs.Answer.{Sent};
 ghost use Rattle.sources.specs.Source.{listOf, Counted};
 ghost use Rattle.settings.specs.Settings.{held};
 ghost use Rattle.frame_writer.specs.Written.{frameV1, frameV2};
-ghost use Rattle.frames_facts.specs.ReadBack.{SendableV1, SendableV2};
-ghost use Rattle.printed_facts.specs.Printed.{Printed};
+ghost use Rattle.frame_writer.specs.Sendable.{SendableV1, SendableV2};
 ghost use Rattle.buffer.specs.First.{_⇒_, first};
 ghost use Rattle.gauge_rules.specs.State.{stateOf};
 ghost use Rattle.gauge_rules_v1.specs.RulesV1.{textV1, repeats};
@@ -49,14 +48,21 @@ fn refuse_v2(out: &mut [u8], head: frames::HeadV2, number: u8) -> buffer::Writte
     }
 }
 
-// Writes the reply to an accepted V2 request: its access code and its data.
-fn reply_v2(out: &mut [u8], head: frames::HeadV2, access: u8, text: buffer::Text) -> buffer::Written
+// Writes the reply to an accepted V2 request: from the address that the request named, its access code and its data.
+fn reply_v2(
+    out: &mut [u8],
+    head: frames::HeadV2,
+    address: u8,
+    access: u8,
+    text: buffer::Text,
+) -> buffer::Written
     requires { ⌜ Fits (SendableV2 head []) (now out) ⌝ }
+    requires { ⌜ address ≡ head .address ⌝ }
     requires { ⌜ (isDigit access ≡ true) × Printed (textOf text) ⌝ }
     ensures { λ r. ⌜ Sent (now (out .entry)) (record { number = 0; reply = frameV2 (answerHead head access) (textOf text) }) (now (out .exit)) r ⌝ }
 {
     let answer = frames::HeadV2 {
-        address: head.address,
+        address: address as u16,
         access,
         first: head.first,
         second: head.second,
@@ -105,7 +111,7 @@ fn same(gauge: gauge_rules::Gauge, written: buffer::Written) -> Answered
     Answered { gauge, written }
 }
 
-// A V2 request, and the sources beside it.
+// A V2 request to this gauge's address, and the sources beside it.
 fn answer_v2(
     g: gauge_rules::Gauge,
     head: frames::HeadV2,
@@ -113,6 +119,7 @@ fn answer_v2(
     out: &mut [u8],
 ) -> Answered
     requires { ⌜ Fits (SendableV2 head []) (now out) ⌝ }
+    requires { ⌜ head .address ≡ g .settings .address ⌝ }
     ensures { λ r. ⌜ AnswersV2 (stateOf g) head (asked .ask) (listOf (asked .sources)) (now (out .entry)) (now (out .exit)) r ⌝ }
     ensures { λ r. ⌜ (Counted (g .settings .sources) → Counted (asked .sources) → Counted (r .gauge .settings .sources)) ⌝ }
 {
@@ -120,23 +127,19 @@ fn answer_v2(
     let list = asked.sources;
     match ask {
         requests::AskV2::Refused(k) => same(g, refuse_v2(out, head, k)),
-        requests::AskV2::For(request) => {
+        requests::AskV2::Asks(request) => {
             let number = gauge_rules::number_v2(g, request);
             if number != 0 {
                 return same(g, refuse_v2(out, head, number));
             }
             let text = gauge_rules::text_v2(g, request);
-            let written = reply_v2(out, head, gauge_rules::answer_code(request), text);
-            let s = g.settings;
-            let readings = g.readings;
-            let unlocked = g.unlocked;
-            let settings = gauge_rules::enter_v2(s, request, list);
+            let old = g.settings;
+            let settings = gauge_rules::enter_v2(old, request, list);
+            // "A DA write or restore is answered from the old address."
+            let code = gauge_rules::answer_code(request);
+            let written = reply_v2(out, head, old.address, code, text);
             Answered {
-                gauge: gauge_rules::Gauge {
-                    settings,
-                    readings,
-                    unlocked,
-                },
+                gauge: g.with_settings(settings),
                 written,
             }
         }
@@ -175,15 +178,9 @@ fn answer_v1(
     ensures { λ r. ⌜ AnswersV1 (stateOf g) (now (request .entry)) head ask (now (out .entry)) (now (out .exit)) r ⌝ }
     ensures { λ r. ⌜ (Counted (g .settings .sources) → Counted (r .gauge .settings .sources)) ⌝ }
 {
-    let settings = g.settings;
-    let readings = g.readings;
-    let locked = gauge_rules::Gauge {
-        settings,
-        readings,
-        unlocked: false,
-    };
+    let locked = g.with_unlock(false);
     match ask {
-        requests::AskV1::Denied(k) => same(locked, refuse_v1(out, head, k)),
+        requests::AskV1::Refused(k) => same(locked, refuse_v1(out, head, k)),
         requests::AskV1::Asks(asks) => {
             let number = gauge_rules_v1::number_v1(g, asks);
             if number != 0 {
@@ -191,13 +188,9 @@ fn answer_v1(
             }
             let written = granted_v1(g, request, head, asks, out);
             let unlocked = gauge_rules_v1::unlocks_gauge(asks);
-            let entered = gauge_rules_v1::enter_v1(g, asks);
+            let settings = gauge_rules_v1::enter_v1(g, asks);
             Answered {
-                gauge: gauge_rules::Gauge {
-                    settings: entered,
-                    readings,
-                    unlocked,
-                },
+                gauge: g.with_settings(settings).with_unlock(unlocked),
                 written,
             }
         }
@@ -229,7 +222,7 @@ pub fn answer(g: gauge_rules::Gauge, request: &[u8], out: &mut [u8]) -> Answered
             if head.address != address {
                 return silent(g, 5);
             }
-            let ask = requests::read_v1(head.letter, frames::data_from(request, 4));
+            let ask = requests::read_v1(head.letter, frames::data_v1(request));
             answer_v1(g, request, head, ask, out)
         }
         frames::Frame::Length(head) => {
@@ -242,7 +235,7 @@ pub fn answer(g: gauge_rules::Gauge, request: &[u8], out: &mut [u8]) -> Answered
             if head.address != address {
                 return silent(g, 5);
             }
-            let asked = requests::read_v2(head, frames::data_from(request, 8));
+            let asked = requests::read_v2(head, frames::data_v2(request));
             answer_v2(g, head, asked, out)
         }
     }
@@ -255,25 +248,16 @@ pub fn set_bench(g: gauge_rules::Gauge, b: readings::Bench) -> BenchAnswer
     ensures { λ r. ⌜ Benches (stateOf g) b r ⌝ }
     ensures { λ r. ⌜ (Counted (g .settings .sources) → Counted (r .gauge .settings .sources)) ⌝ }
 {
-    let settings = g.settings;
     let old = g.readings;
-    let unlocked = g.unlocked;
     match readings::judge_bench(b) {
         readings::Benched::Refused => BenchAnswer {
             gauge: g,
             number: 15,
         },
-        readings::Benched::Accepted(x) => {
-            let readings = old.with(x);
-            BenchAnswer {
-                gauge: gauge_rules::Gauge {
-                    settings,
-                    readings,
-                    unlocked,
-                },
-                number: 0,
-            }
-        }
+        readings::Benched::Accepted(x) => BenchAnswer {
+            gauge: g.with_readings(old.with(x)),
+            number: 0,
+        },
     }
 }
 

@@ -1,41 +1,23 @@
--- Worked cases of the text writer: what it answers and writes. Assumes nothing.
-use mathlib.Core.Path.{_≡_, refl}
+-- Document 01, "The master's side": worked cases of the text writer, what it answers and writes.
 use mathlib.Core.Bool.{Bool, true, false, _&&_}
 use mathlib.Core.List.{List, [], _∷_, _++_}
 use Prim.Native.Nat.{ℕ}
 use Prim.Native.String.{String}
-use native.Mathlib.Omega.{arith}
 use lib.Dec.{eqb}
-use Rattle.buffer.specs.First.{pick}
-use Rattle.buffer.specs.Byte.{within, every, sameText, numeralFrom}
+use Rattle.buffer.specs.Byte.{sameText}
 use Rattle.buffer.specs.Quoted.{bytes}
 use Rattle.buffer.specs.Answer.{Answer}
-use Rattle.frames.specs.Checksum.{sumOf, checksumOf, endOf, closed}
-use Rattle.frame_writer.specs.Written.{frameV1, frameV2}
-use Rattle.decimal.specs.Exact.{units, sizeOf, normalOf}
-use Rattle.decimal.specs.Number.{plus, minus, belowOf, sameValue}
 use Rattle.decimal.specs.declared.Number.{Number}
-use Rattle.decimal_text.specs.Written.{signText, trimmed, pointed, exponentText, writtenOf, wholeText, twoDecimals}
-use Rattle.sources.specs.Source.{sourceText, among, listOf, listText}
 use Rattle.sources.specs.declared.Sources.{Sources}
-use Rattle.settings.specs.Settings.{factory, putOf}
-use Rattle.settings.specs.Sent.{unitText, transitionText, streamText, readText}
-use Rattle.settings.specs.declared.PressureUnit.the-variants.{Mbar, Torr, HPa}
-use Rattle.settings.specs.declared.Transition.the-variants.{Direct, Between}
-use Rattle.settings.specs.declared.Key.the-variants.{DA, DU, C1, CM, CC, FC, ST, SM}
-use Rattle.settings.specs.declared.Setting.the-variants.{Address, PressureIn, Factor, Control, Cathode, Filament, Switch, Stream}
-use Rattle.forms.specs.Forms.{factorIn, limitedOf, directOf, betweenOf, transitionOf}
-use Rattle.requests.specs.Command.{commandText, canRestore, lacksAccess}
-use Rattle.requests.specs.AskV2.{setOf}
-use Rattle.requests.specs.declared.Command.the-variants.{MV, T2, FN, FS, Of}
+use Rattle.settings.specs.declared.Transition.the-variants.{Between}
+use Rattle.settings.specs.declared.Key.the-variants.{SM}
+use Rattle.settings.specs.declared.Setting.the-variants.{Address, Factor, Control, Cathode, Switch, Stream}
+use Rattle.requests.specs.declared.Command.the-variants.{MV, Of}
 use Rattle.requests.specs.declared.RequestV2.{RequestV2}
 use Rattle.requests.specs.declared.RequestV2.the-variants.{Read, Restore, Set}
 use Rattle.requests.specs.declared.RequestV1.{RequestV1}
-use Rattle.requests.specs.declared.RequestV1.the-variants.{Measure, ReadFactor, Unlock, SetFactor, ReadUnit, SetUnit}
-use Rattle.request_texts.specs.RequestText.{accessOf, commandIn, headFor, dataV2, unitCode, letterV1, dataV1}
-use Rattle.request_writer.specs.Typed.{limitedNumber, endsIn, typedDigit, judgedDigit, typedAddress, typedStream, typedVerdict, formedV2, formedV1}
-use Rattle.request_writer.specs.Written.{sentV2, requestWrittenV2, requestWrittenV1}
-use Rattle.written_facts.specs.Same.{SameV2}
+use Rattle.requests.specs.declared.RequestV1.the-variants.{Measure, Unlock, SetFactor}
+use Rattle.request_writer.specs.Written.{requestWrittenV2, requestWrittenV1}
 
 -- a case: the writer's answer, and what it should be
 pub record Case : Type 0 where
@@ -119,20 +101,3 @@ cases =
 
 abbrev pub right : Case → Bool
 right c = eqb (c .answer .number) (c .number) && sameText (c .answer .reply) (c .text)
-
-pub all-written : every right cases ≡ true
-unfolding bytes every sameText pick within numeralFrom sumOf checksumOf endOf closed frameV1 frameV2 units sizeOf normalOf plus minus belowOf signText trimmed pointed exponentText writtenOf wholeText twoDecimals sourceText among listOf listText putOf unitText transitionText streamText readText factorIn limitedOf directOf betweenOf transitionOf commandText canRestore lacksAccess setOf accessOf commandIn headFor dataV2 unitCode letterV1 dataV1 limitedNumber endsIn typedDigit judgedDigit typedAddress typedStream typedVerdict formedV2 formedV1 sentV2 requestWrittenV2 requestWrittenV1
-all-written = refl
-
--- requests that are not the same: another number, another form of ST
-pub other-number : SameV2 (Set (Switch (Direct (number 5 14)))) (Set (Switch (Direct (number 6 14)))) → ⊥
-unfolding sameValue plus minus units
-other-number e = absurd (let z : _≡_ {A = ℕ} 0 1 = cc in omega arith)
-
-pub other-form : SameV2 (Set (Switch (Direct (number 5 14)))) (Set (Switch (Between (number 5 14) (number 6 14)))) → ⊥
-other-form e = e
-
--- and the same by value: 5 and 5.0
-pub same-number : SameV2 (Set (Switch (Direct (number 5 14)))) (Set (Switch (Direct (number 500000 9))))
-unfolding sameValue plus minus units
-same-number = refl

@@ -1,8 +1,8 @@
--- Document 01, "The master's side": "Numbers are the same by value, and the list counts for an SM write only." Assumes nothing.
+-- Document 01, "The master's side": "Numbers are the same by value, and the list counts for an SM write only."
 use mathlib.Core.Path.{_≡_}
 use mathlib.Core.Bool.{true}
 use mathlib.Core.List.{List}
-use Prim.Native.Nat.{ℕ, _^_, _<_}
+use Prim.Native.Nat.{ℕ}
 use Rattle.decimal.specs.Number.{sameValue}
 use Rattle.decimal.specs.declared.Number.{Number}
 use Rattle.settings.specs.declared.Transition.{Transition}

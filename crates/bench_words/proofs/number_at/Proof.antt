@@ -1,4 +1,4 @@
--- `bench_words::number_at` meets its contract. Assumes nothing.
+-- `bench_words::number_at` meets its contract.
 use mathlib.Core.Path.{sym, ap}
 use borrow.Author.Needs.{needs}
 use Rattle.bench_words.specs.Words.{numberAt}

@@ -1,4 +1,4 @@
--- `bench_words::read_setting` meets its contract. Assumes nothing.
+-- `bench_words::read_setting` meets its contract.
 use mathlib.Core.Path.{_≡_, refl}
 use mathlib.Core.List.{List, [], _∷_}
 use Prim.Native.Nat.{ℕ}
@@ -11,12 +11,12 @@ use Rattle.sources.proofs.Source.{the-type}
 use Rattle.buffer.specs.Quoted.{bytes}
 use Rattle.buffer.proofs.Rules.{past, stop, flag}
 use Rattle.bench_words.specs.Words.{sourceAt, wordedOf}
-use Rattle.bench_words.specs.declared.Worded.the-variants.{Isnt}
+use Rattle.bench_words.specs.declared.Worded.the-variants.{Refused}
 use Rattle.bench_words.proofs.read_setting.Statement.{statement}
 use Rattle.bench_words.proofs.read_setting.Tie as tie
 
 -- a source that is not known: its tag is not the first
-other : (s : Source) (value : List ℕ) → OneOf (1 ∷ 2 ∷ []) (tagOf the-type s) → Isnt ≡ sourceAt s value
+other : (s : Source) (value : List ℕ) → OneOf (1 ∷ 2 ∷ []) (tagOf the-type s) → Refused ≡ sourceAt s value
 unfolding sourceAt
 other (Known code) value h = absurd (miss (1 ∷ 2 ∷ []) 0 tt h)
 other Unknown value h = refl

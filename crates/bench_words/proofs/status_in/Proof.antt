@@ -1,4 +1,4 @@
--- `bench_words::status_in` meets its contract. Assumes nothing.
+-- `bench_words::status_in` meets its contract.
 use mathlib.Core.Path.{refl, sym, ap}
 use borrow.Author.Needs.{needs}
 use borrow.Author.Tests.{le-leb, lt-leb}

@@ -1,4 +1,4 @@
--- `bench_words::status_of` meets its contract. Assumes nothing.
+-- `bench_words::status_of` meets its contract.
 use mathlib.Core.Path.{_≡_, refl, _∙_, ap}
 use mathlib.Core.List.{[], _∷_}
 use borrow.Author.Needs.{needs}
@@ -10,13 +10,13 @@ use Rattle.decimal.proofs.Parsed.{the-type}
 use Rattle.buffer.proofs.Rules.{past, stop}
 use Rattle.bench_words.specs.Inner.{statusIn}
 use Rattle.bench_words.specs.Words.{statusOf}
-use Rattle.bench_words.specs.declared.Worded.the-variants.{Isnt}
+use Rattle.bench_words.specs.declared.Worded.the-variants.{Refused}
 use Rattle.bench_words.proofs.Laws.{by-hundredths}
 use Rattle.bench_words.proofs.status_of.Statement.{statement}
 use Rattle.bench_words.proofs.status_of.Tie as tie
 
 -- a number that was not read: its tag is not the first
-other : (p : Parsed) → OneOf (1 ∷ 2 ∷ []) (tagOf the-type p) → Isnt ≡ statusOf p
+other : (p : Parsed) → OneOf (1 ∷ 2 ∷ []) (tagOf the-type p) → Refused ≡ statusOf p
 unfolding statusOf
 other (Value n) h = absurd (miss (1 ∷ 2 ∷ []) 0 tt h)
 other Syntax h = refl

@@ -1,4 +1,4 @@
--- `buffer::all_within` meets its contract. The invariant: what is left is all within exactly if the whole is. Assumes nothing.
+-- `buffer::all_within` meets its contract. The invariant: what is left is all within exactly if the whole is.
 use mathlib.Core.Path.{_≡_, refl, sym, _∙_}
 use mathlib.Core.Bool.{true, false}
 use Prim.Native.Nat.{_-_, _≤_}

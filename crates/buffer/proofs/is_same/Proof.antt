@@ -1,4 +1,4 @@
--- `buffer::is_same` meets its contract. The invariant: what is left is the same exactly if the whole is. Assumes nothing.
+-- `buffer::is_same` meets its contract. The invariant: what is left is the same exactly if the whole is.
 use mathlib.Core.Path.{_≡_, refl, sym}
 use mathlib.Core.Bool.{true, false, and-true, and-false}
 use Prim.Native.Nat.{_-_, _≤_}

@@ -1,4 +1,4 @@
--- `buffer::is_within` meets its contract. Assumes nothing.
+-- `buffer::is_within` meets its contract.
 use Rattle.buffer.specs.Byte.{within}
 use Rattle.buffer.proofs.Rules.{tests}
 use Rattle.buffer.proofs.is_within.Statement.{statement}

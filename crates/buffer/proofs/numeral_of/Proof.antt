@@ -1,4 +1,4 @@
--- `buffer::numeral_of` meets its contract. The invariant: the rest of the first six characters, after v, spells the whole. Assumes nothing.
+-- `buffer::numeral_of` meets its contract. The invariant: the rest of the first six characters, after v, spells the whole.
 use mathlib.Core.Path.{_≡_, refl, sym, _∙_}
 use Prim.Native.Nat.{_+_, _-_, _*_, _^_, _≤_}
 use native.Mathlib.Omega.{arith}

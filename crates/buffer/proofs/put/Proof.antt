@@ -1,4 +1,4 @@
--- `buffer::put` meets its contract. The invariant: with what is left of src stored from at + i on, the memory is as it is to be. Assumes nothing.
+-- `buffer::put` meets its contract. The invariant: with what is left of src stored from at + i on, the memory is as it is to be.
 use mathlib.Core.Path.{_≡_, refl, sym, ap, _∙_}
 use Prim.Native.Nat.{_+_, _-_, _≤_}
 use native.Mathlib.Nat.{add-zero, add-assoc}

@@ -1,4 +1,4 @@
--- `buffer::put_text` meets its contract. Assumes nothing.
+-- `buffer::put_text` meets its contract.
 use native.Mathlib.Omega.{arith}
 use borrow.Author.Needs.{needs}
 use lib.ListN.{length-take}

@@ -1,4 +1,4 @@
--- `buffer::rest` meets its contract. Assumes nothing.
+-- `buffer::rest` meets its contract.
 use mathlib.Core.Path.{sym}
 use native.Mathlib.Omega.{arith}
 use borrow.Author.Needs.{needs}

@@ -1,4 +1,4 @@
--- `buffer::until` meets its contract. The invariant: i bytes and those before the first b of what is left. Assumes nothing.
+-- `buffer::until` meets its contract. The invariant: i bytes and those before the first b of what is left.
 use mathlib.Core.Path.{_≡_}
 use mathlib.Core.Bool.{true, false}
 use Prim.Native.Nat.{_+_, _-_, _≤_}

@@ -1,4 +1,4 @@
--- `c_interface::perrezkun_play` meets its contract. Assumes nothing.
+-- `c_interface::perrezkun_play` meets its contract.
 use borrow.Author.Needs.{needs}
 use Rattle.c_interface.proofs.perrezkun_play.Statement.{statement}
 use Rattle.c_interface.proofs.perrezkun_play.Tie as tie

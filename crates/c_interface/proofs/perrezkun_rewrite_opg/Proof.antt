@@ -1,4 +1,4 @@
--- `c_interface::perrezkun_rewrite_opg` meets its contract. Assumes nothing.
+-- `c_interface::perrezkun_rewrite_opg` meets its contract.
 use borrow.Author.Needs.{needs}
 use Rattle.c_interface.proofs.perrezkun_rewrite_opg.Statement.{statement}
 use Rattle.c_interface.proofs.perrezkun_rewrite_opg.Tie as tie

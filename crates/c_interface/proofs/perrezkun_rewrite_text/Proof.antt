@@ -1,4 +1,4 @@
--- `c_interface::perrezkun_rewrite_text` meets its contract. Assumes nothing.
+-- `c_interface::perrezkun_rewrite_text` meets its contract.
 use borrow.Author.Needs.{needs}
 use Rattle.c_interface.proofs.perrezkun_rewrite_text.Statement.{statement}
 use Rattle.c_interface.proofs.perrezkun_rewrite_text.Tie as tie

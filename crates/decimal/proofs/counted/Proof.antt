@@ -1,4 +1,4 @@
--- `decimal::counted` meets its contract. Assumes nothing.
+-- `decimal::counted` meets its contract.
 use borrow.Author.Needs.{needs}
 use Rattle.buffer.proofs.Rules.{rules}
 use Rattle.decimal.specs.Number.{countedOf}

@@ -1,4 +1,4 @@
--- `decimal::exponent` meets its contract. Assumes nothing.
+-- `decimal::exponent` meets its contract.
 use mathlib.Core.Path.{sym, _∙_}
 use borrow.Author.Needs.{needs}
 use Rattle.buffer.proofs.Rules.{rules}

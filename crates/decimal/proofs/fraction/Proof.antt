@@ -1,4 +1,4 @@
--- `decimal::fraction` meets its contract. Assumes nothing.
+-- `decimal::fraction` meets its contract.
 use native.Mathlib.Omega.{arith}
 use borrow.Author.Needs.{needs}
 use Rattle.buffer.proofs.Rules.{rules}
@@ -6,7 +6,7 @@ use Prim.Native.Nat.{_+_, _*_, _<_}
 use borrow.Author.Tests.{le-ltb, lt-leb}
 use Rattle.buffer.specs.First.{pick}
 use Rattle.decimal.specs.Form.{fractionOf}
-use Rattle.decimal.proofs.Laws.{leading-le}
+use Rattle.buffer.proofs.Laws.{leading-le}
 use Rattle.decimal.proofs.Sizes.{joined-six}
 use Rattle.decimal.proofs.fraction.Statement.{statement}
 use Rattle.decimal.proofs.fraction.Tie as tie

@@ -1,4 +1,4 @@
--- `decimal::in_hundredths` meets its contract. Assumes nothing.
+-- `decimal::in_hundredths` meets its contract.
 use mathlib.Core.Path.{_∙_}
 use borrow.Author.Needs.{needs}
 use native.Mathlib.Omega.{arith}

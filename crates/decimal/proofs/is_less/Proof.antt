@@ -1,4 +1,4 @@
--- `decimal::is_less` meets its contract. Sizes are compared at the smaller place. Assumes nothing.
+-- `decimal::is_less` meets its contract. Sizes are compared at the smaller place.
 use borrow.Author.Needs.{needs}
 use native.Mathlib.Omega.{arith}
 use Rattle.decimal.specs.Exact.{units}

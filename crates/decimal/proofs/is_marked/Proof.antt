@@ -1,4 +1,4 @@
--- `decimal::is_marked` meets its contract. Assumes nothing.
+-- `decimal::is_marked` meets its contract.
 use mathlib.Core.Path.{sym, _∙_}
 use borrow.Author.Needs.{needs}
 use Rattle.decimal.proofs.is_marked.Statement.{statement}

@@ -1,4 +1,4 @@
--- `decimal::normal` meets its contract. Assumes nothing.
+-- `decimal::normal` meets its contract.
 use borrow.Author.Needs.{needs}
 use native.Mathlib.Omega.{arith}
 use Rattle.buffer.proofs.Rules.{rules}

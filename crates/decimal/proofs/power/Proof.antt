@@ -1,4 +1,4 @@
--- `decimal::power` meets its contract. Assumes nothing.
+-- `decimal::power` meets its contract.
 use native.Mathlib.Omega.{arith}
 use borrow.Author.Needs.{needs}
 use Rattle.buffer.proofs.Rules.{rules}

@@ -1,4 +1,4 @@
--- `decimal::read_exact` meets its contract. Assumes nothing.
+-- `decimal::read_exact` meets its contract.
 use mathlib.Core.Path.{sym, _∙_}
 use borrow.Author.Needs.{needs}
 use Rattle.buffer.specs.First.{pick}

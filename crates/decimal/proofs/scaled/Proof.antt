@@ -1,4 +1,4 @@
--- `decimal::scaled` meets its contract. Assumes nothing.
+-- `decimal::scaled` meets its contract.
 use mathlib.Core.Path.{sym, ap, _∙_}
 use mathlib.Core.Logic.{inl, inr}
 use Prim.Native.Nat.{ℕ, _*_, _^_, _≤_}

@@ -1,4 +1,4 @@
--- `decimal::size_of` meets its contract: between two powers of ten lies one number of digits. Assumes nothing.
+-- `decimal::size_of` meets its contract: between two powers of ten lies one number of digits.
 use mathlib.Core.Path.{_≡_, refl, sym}
 use borrow.Author.Tests.{lt-ltb}
 use native.Mathlib.Omega.{arith}

@@ -1,10 +1,11 @@
--- `decimal::spelled` meets its contract. Assumes nothing.
+-- `decimal::spelled` meets its contract.
 use mathlib.Core.Path.{ap, _∙_}
 use native.Mathlib.Omega.{arith}
 use borrow.Author.Needs.{needs}
 use lib.ListN.{length-take}
 use Rattle.buffer.specs.Byte.{numeral}
-use Rattle.decimal.proofs.Laws.{six, numeral-low, leading-le}
+use Rattle.buffer.proofs.Laws.{leading-le}
+use Rattle.decimal.proofs.Laws.{six, numeral-low}
 use Rattle.decimal.proofs.spelled.Statement.{statement}
 use Rattle.decimal.proofs.spelled.Tie as tie
 

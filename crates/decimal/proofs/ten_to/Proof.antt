@@ -1,4 +1,4 @@
--- `decimal::ten_to` meets its contract. Assumes nothing.
+-- `decimal::ten_to` meets its contract.
 use mathlib.Core.Path.{_≡_, refl, sym, ap, _∙_}
 use Prim.Native.Nat.{ℕ, _*_, _-_, _^_, _≤_}
 use native.Mathlib.Omega.{arith}

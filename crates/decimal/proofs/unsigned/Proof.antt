@@ -1,4 +1,4 @@
--- `decimal::unsigned` meets its contract. Assumes nothing.
+-- `decimal::unsigned` meets its contract.
 use mathlib.Core.Path.{sym, _∙_}
 use borrow.Author.Needs.{needs}
 use Rattle.buffer.proofs.Rules.{rules}

@@ -10,9 +10,8 @@ use borrow.Author.Tests.{leb-true}
 use lib.Dec.{leb}
 use lib.ListN.{length, take, length-take}
 use Rattle.buffer.specs.First.{pick}
-use Rattle.buffer.specs.Byte.{at, within, isDigit, every, numeralFrom, numeral}
-use Rattle.decimal.specs.Form.{leading}
-use Rattle.decimal.proofs.Laws.{leading-le}
+use Rattle.buffer.specs.Byte.{at, within, isDigit, every, numeralFrom, numeral, leading}
+use Rattle.buffer.proofs.Laws.{leading-le}
 
 -- ---- tests
 

@@ -11,13 +11,13 @@ use lib.Dec.{ltb, leb, eqb, eqb·suc-zero}
 use lib.ListN.{length, take, drop, take-append-drop}
 use lib.Seq.{take-length, take-append-seam, drop-append-seam}
 use Rattle.buffer.specs.First.{pick}
-use Rattle.buffer.specs.Byte.{at, within, isDigit, every, numeral, numeralFrom}
-use Rattle.decimal.specs.Form.{leading, startsWith, powerOf, exponentOf, fractionOf, unsignedOf, scanOf}
+use Rattle.buffer.specs.Byte.{at, within, isDigit, every, numeral, numeralFrom, leading, startsWith}
+use Rattle.decimal.specs.Form.{powerOf, exponentOf, fractionOf, unsignedOf, scanOf}
 use Rattle.decimal.specs.declared.Exact.{Exact}
 use Rattle.decimal.specs.declared.Scan.{Scan}
 use Rattle.decimal.specs.declared.Scan.the-variants.{Of, NoForm}
-use Rattle.decimal.proofs.Laws.{leading-le}
-use Rattle.decimal_facts.specs.Grammar.{Parts, Good, dash, point, exponent, textOf, meaning}
+use Rattle.buffer.proofs.Laws.{leading-le}
+use Rattle.decimal_facts.specs.Grammar.{Parts, Good, dash, point, exponent, spelledOf, meaning}
 use Rattle.decimal_facts.proofs.Lemmas.Digits.{digit-low, both-left, leading-at, leading-digits, leading-length, numeral-append, passed}
 
 -- ---- from the form to the reader
@@ -274,17 +274,17 @@ unsigned-shape s negative y e =
     (drop (leading s) s) _ y (b .1))
 
 -- the parts of a text with its sign
-signed-shape : (b : Bool) (u : List ℕ) → Body b u → (p : Parts) × Good p × (textOf p ≡ dash b ++ u)
-unfolding textOf
+signed-shape : (b : Bool) (u : List ℕ) → Body b u → (p : Parts) × Good p × (spelledOf p ≡ dash b ++ u)
+unfolding spelledOf
 signed-shape b u r =
     let p = r .parts in
     (p, r .good, rw (append-assoc (dash (p .negative) ++ p .whole) (point (p .fraction)), append-assoc (dash (p .negative)) (p .whole), r .text, r .sign))
 
-pub shape : (s : List ℕ) (y : Exact) → scanOf s ≡ Of y → (p : Parts) × Good p × (textOf p ≡ s)
+pub shape : (s : List ℕ) (y : Exact) → scanOf s ≡ Of y → (p : Parts) × Good p × (spelledOf p ≡ s)
 unfolding scanOf startsWith pick dash
 shape [] y e = signed-shape false [] (unsigned-shape [] false y e)
 shape (c ∷ s) y e = go (eqb c 45) refl e
   where
-    go : (b : Bool) → eqb c 45 ≡ b → pick b (unsignedOf s true) (unsignedOf (c ∷ s) false) ≡ Of y → (p : Parts) × Good p × (textOf p ≡ c ∷ s)
+    go : (b : Bool) → eqb c 45 ≡ b → pick b (unsignedOf s true) (unsignedOf (c ∷ s) false) ≡ Of y → (p : Parts) × Good p × (spelledOf p ≡ c ∷ s)
     go true z g = rw (eqb-true c 45 z) (signed-shape true s (unsigned-shape s true y g))
     go false z g = signed-shape false (c ∷ s) (unsigned-shape (c ∷ s) false y g)

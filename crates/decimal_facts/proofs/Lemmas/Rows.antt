@@ -19,7 +19,7 @@ use Rattle.decimal.specs.declared.Exact.{Exact}
 use Rattle.decimal.specs.declared.Parsed.{Parsed}
 use Rattle.decimal.specs.declared.Parsed.the-variants.{Value, Syntax, Range}
 use Rattle.decimal.proofs.Sizes.{ten-pos, size-low, size-high, units-pos}
-use Rattle.decimal_facts.specs.Canonical.{Full, Canonical, Exactly, TooSmall, TooLarge, SixDigits, Answers, nothing, number, outside, uneven}
+use Rattle.decimal_facts.specs.Canonical.{Full, Canonical, Exactly, TooSmall, TooLarge, SixDigits, ParsesAs, nothing, number, outside, uneven}
 use Rattle.decimal_facts.proofs.Lemmas.Powers.{six-low, six-high, six-same, six-equal, six-divides, small, large, not-small, not-large, units-low, units-high, same-place, same-mantissa}
 
 -- ---- the rows of `normalOf`
@@ -37,7 +37,7 @@ module _ (x : Exact) (a : eqb (x .digits) 0 ≡ false) where
   some : 0 < x .digits
   some = omega (arith, eqb-false (x .digits) 0 a)
 
-  row-uneven : not (eqb (x .digits * 10 ^ 6 % 10 ^ sizeOf (x .digits)) 0) ≡ true → Answers x Syntax
+  row-uneven : not (eqb (x .digits * 10 ^ 6 % 10 ^ sizeOf (x .digits)) 0) ≡ true → ParsesAs x Syntax
   row-uneven b = uneven some (λ w. eqb-false (x .digits * 10 ^ 6 % 10 ^ sizeOf (x .digits)) 0 (not-true _ b) (six-divides (x .digits) some w))
 
   module _ (b : not (eqb (x .digits * 10 ^ 6 % 10 ^ sizeOf (x .digits)) 0) ≡ false) where
@@ -49,13 +49,13 @@ module _ (x : Exact) (a : eqb (x .digits) 0 ≡ false) where
     six : SixDigits (x .digits)
     six = six-equal _ (sizeOf (x .digits)) (x .digits) 6 (six-high (x .digits) (sizeOf (x .digits)) _ whole (size-high (x .digits))) whole
 
-    row-small : ltb (sizeOf (x .digits) + 8 + x .up) (x .down) ≡ true → Answers x Range
+    row-small : ltb (sizeOf (x .digits) + 8 + x .up) (x .down) ≡ true → ParsesAs x Range
     row-small c = outside some six (inl (small (x .digits) (sizeOf (x .digits)) (x .up) (x .down) (size-high (x .digits)) (ltb-true _ _ c)))
 
-    row-large : leb (x .down + 19) (sizeOf (x .digits) + 8 + x .up) ≡ true → Answers x Range
+    row-large : leb (x .down + 19) (sizeOf (x .digits) + 8 + x .up) ≡ true → ParsesAs x Range
     row-large c = outside some six (inr (large (x .digits) (sizeOf (x .digits)) (x .up) (x .down) (size-low (x .digits) some) (leb-true _ _ c)))
 
-    row-number : ltb (sizeOf (x .digits) + 8 + x .up) (x .down) ≡ false → leb (x .down + 19) (sizeOf (x .digits) + 8 + x .up) ≡ false → Answers x (Value (sixOf x))
+    row-number : ltb (sizeOf (x .digits) + 8 + x .up) (x .down) ≡ false → leb (x .down + 19) (sizeOf (x .digits) + 8 + x .up) ≡ false → ParsesAs x (Value (sixOf x))
     unfolding units
     row-number c e =
         let l = ltb-false (sizeOf (x .digits) + 8 + x .up) (x .down) c in
@@ -68,13 +68,13 @@ module _ (x : Exact) (a : eqb (x .digits) 0 ≡ false) where
         } in
         number (sixOf x) some (record { canonical = inr f; size = six-same (x .digits) (sizeOf (x .digits)) _ whole (x .up) (x .down) l; sign = λ _. refl })
 
-pub rows : (x : Exact) → Answers x (normalOf x)
+pub rows : (x : Exact) → ParsesAs x (normalOf x)
 unfolding normalOf
 rows x =
-    each (Answers x) (eqb (x .digits) 0) (Value zeroNumber) _ (λ a. nothing (eqb-true (x .digits) 0 a))
-    (λ a. each (Answers x) (not (eqb (x .digits * 10 ^ 6 % 10 ^ sizeOf (x .digits)) 0)) Syntax _ (row-uneven x a)
-    (λ b. each (Answers x) (ltb (sizeOf (x .digits) + 8 + x .up) (x .down)) Range _ (row-small x a b)
-    (λ c. each (Answers x) (leb (x .down + 19) (sizeOf (x .digits) + 8 + x .up)) Range _ (row-large x a b) (row-number x a b c))))
+    each (ParsesAs x) (eqb (x .digits) 0) (Value zeroNumber) _ (λ a. nothing (eqb-true (x .digits) 0 a))
+    (λ a. each (ParsesAs x) (not (eqb (x .digits * 10 ^ 6 % 10 ^ sizeOf (x .digits)) 0)) Syntax _ (row-uneven x a)
+    (λ b. each (ParsesAs x) (ltb (sizeOf (x .digits) + 8 + x .up) (x .down)) Range _ (row-small x a b)
+    (λ c. each (ParsesAs x) (leb (x .down + 19) (sizeOf (x .digits) + 8 + x .up)) Range _ (row-large x a b) (row-number x a b c))))
 
 -- ---- one value has one number
 
@@ -166,13 +166,13 @@ exactly-zero x n z f = go (f .canonical)
     go (inl e) = sym e
     go (inr g) = absurd (omega (arith, mul-pos (full-some n g) (ten-pos (x .down)), rw z at (f .size)))
 
-pub answered-exactly : (x : Exact) (n : Number) (r : Parsed) → Answers x r → r ≡ Value n → Exactly x n
+pub answered-exactly : (x : Exact) (n : Number) (r : Parsed) → ParsesAs x r → r ≡ Value n → Exactly x n
 answered-exactly x n r (nothing z) e = let w : zeroNumber ≡ n = cc in rw (← w) (zero-exactly x z)
 answered-exactly x n r (number m h f) e = let w : m ≡ n = cc in rw (← w) f
 answered-exactly x n r (outside h w o) e = absurd (range-value n e)
 answered-exactly x n r (uneven h w) e = absurd (syntax-value n e)
 
-pub exactly-answered : (x : Exact) (n : Number) (r : Parsed) → Answers x r → Exactly x n → r ≡ Value n
+pub exactly-answered : (x : Exact) (n : Number) (r : Parsed) → ParsesAs x r → Exactly x n → r ≡ Value n
 exactly-answered x n r (nothing z) f = ap Value (exactly-zero x n z f)
 exactly-answered x n r (number m h g) f = ap Value (exactly-same x m n h g f)
 exactly-answered x n r (outside h w o) f = absurd (exactly-within x n h f o)
@@ -180,25 +180,25 @@ exactly-answered x n r (uneven h w) f = absurd (w (exactly-six x n h f))
 
 -- ---- RANGE and SYNTAX
 
-pub range-outside : (x : Exact) (r : Parsed) → Answers x r → r ≡ Range → (0 < x .digits) × SixDigits (x .digits) × (TooSmall x ⊎ TooLarge x)
+pub range-outside : (x : Exact) (r : Parsed) → ParsesAs x r → r ≡ Range → (0 < x .digits) × SixDigits (x .digits) × (TooSmall x ⊎ TooLarge x)
 range-outside x r (nothing z) e = absurd (range-value zeroNumber (sym e))
 range-outside x r (number n h f) e = absurd (range-value n (sym e))
 range-outside x r (outside h w o) e = (h, w, o)
 range-outside x r (uneven h w) e = absurd (range-syntax (sym e))
 
-pub outside-range : (x : Exact) (r : Parsed) → 0 < x .digits → SixDigits (x .digits) → Answers x r → TooSmall x ⊎ TooLarge x → r ≡ Range
+pub outside-range : (x : Exact) (r : Parsed) → 0 < x .digits → SixDigits (x .digits) → ParsesAs x r → TooSmall x ⊎ TooLarge x → r ≡ Range
 outside-range x r g s (nothing z) o = absurd (omega arith)
 outside-range x r g s (number n h f) o = absurd (exactly-within x n h f o)
 outside-range x r g s (outside h w k) o = refl
 outside-range x r g s (uneven h w) o = absurd (w s)
 
-pub syntax-six : (x : Exact) (r : Parsed) → Answers x r → r ≡ Syntax → (0 < x .digits) × (SixDigits (x .digits) → ⊥)
+pub syntax-six : (x : Exact) (r : Parsed) → ParsesAs x r → r ≡ Syntax → (0 < x .digits) × (SixDigits (x .digits) → ⊥)
 syntax-six x r (nothing z) e = absurd (syntax-value zeroNumber (sym e))
 syntax-six x r (number n h f) e = absurd (syntax-value n (sym e))
 syntax-six x r (outside h w o) e = absurd (range-syntax e)
 syntax-six x r (uneven h w) e = (h, w)
 
-pub six-syntax : (x : Exact) (r : Parsed) → 0 < x .digits → Answers x r → (SixDigits (x .digits) → ⊥) → r ≡ Syntax
+pub six-syntax : (x : Exact) (r : Parsed) → 0 < x .digits → ParsesAs x r → (SixDigits (x .digits) → ⊥) → r ≡ Syntax
 six-syntax x r g (nothing z) s = absurd (omega arith)
 six-syntax x r g (number n h f) s = absurd (s (exactly-six x n h f))
 six-syntax x r g (outside h w o) s = absurd (s w)

@@ -10,10 +10,10 @@ use borrow.Author.Tests.{le-leb, ne-eqb, ltb-true, ltb-false, eqb-true}
 use lib.Dec.{ltb, eqb}
 use lib.ListN.{length}
 use Rattle.buffer.specs.First.{pick}
-use Rattle.buffer.specs.Byte.{within, isDigit, every, numeralFrom, numeral, digit, digits2, digits3}
+use Rattle.buffer.specs.Byte.{within, isDigit, every, numeralFrom, numeral, digit, digits2, digits3, leading, startsWith}
 use Rattle.buffer.proofs.Rules.{each}
 use Rattle.decimal.specs.Exact.{units, zeroNumber, sizeOf, normalOf}
-use Rattle.decimal.specs.Form.{leading, startsWith, exponentOf, unsignedOf, scanOf, answerOf, numberOf}
+use Rattle.decimal.specs.Form.{exponentOf, unsignedOf, scanOf, parsedOf, numberOf}
 use Rattle.decimal.specs.Number.{hundredthsOf}
 use Rattle.decimal.specs.declared.Number.{Number}
 use Rattle.decimal.specs.declared.Parsed.{Parsed}
@@ -21,8 +21,8 @@ use Rattle.decimal.specs.declared.Parsed.the-variants.{Value}
 use Rattle.decimal.specs.declared.Hundredths.the-variants.{Whole}
 use Rattle.decimal_text.specs.Written.{signText, trimmed, pointed, digits5, exponentText, writtenOf, wholeText, twoDecimals}
 use Rattle.decimal_text.proofs.Laws.{trim-le}
-use Rattle.decimal_facts.specs.Grammar.{Parts, Good, dash, point, exponent, textOf, meaning}
-use Rattle.decimal_facts.specs.Canonical.{Full, Exactly, Answers, nothing, number, outside, uneven}
+use Rattle.decimal_facts.specs.Grammar.{Parts, Good, dash, point, exponent, spelledOf, meaning}
+use Rattle.decimal_facts.specs.Canonical.{Full, Exactly, ParsesAs, nothing, number, outside, uneven}
 use Rattle.decimal_facts.proofs.Lemmas.Digits.{both-left, both-right, numeral-append}
 use Rattle.decimal_facts.proofs.Lemmas.Powers.{moved-same}
 use Rattle.decimal_facts.proofs.Lemmas.Rows.{hundredths-of}
@@ -84,8 +84,8 @@ unfolding dash
 exponent-is p true = refl
 exponent-is p false = refl
 
-pub written-text : (n : Number) → 0 < n .mantissa → textOf (written n) ≡ writtenOf n
-unfolding written textOf writtenOf exponent dash signText exponentText pick
+pub written-text : (n : Number) → 0 < n .mantissa → spelledOf (written n) ≡ writtenOf n
+unfolding written spelledOf writtenOf exponent dash signText exponentText pick
 written-text n h =
     let front = signText (n .negative) ++ (digit (n .mantissa / 100000) ∷ []) ++ pointed (trimmed (digits5 (n .mantissa))) in
     rw (ne-eqb (n .mantissa) 0 (λ (e : n .mantissa ≡ 0). omega arith), point-is (trimmed (digits5 (n .mantissa))), exponent-is (n .place) (ltb (n .place) 9))
@@ -147,7 +147,7 @@ written-exactly n f =
     }
 
 pub zero-reads : numberOf (writtenOf zeroNumber) ≡ Value zeroNumber
-unfolding numberOf answerOf scanOf unsignedOf exponentOf leading startsWith normalOf sizeOf pick within numeralFrom writtenOf
+unfolding numberOf parsedOf scanOf unsignedOf exponentOf leading startsWith normalOf sizeOf pick within numeralFrom writtenOf
 zero-reads = refl
 
 -- ---- the form with two decimals
@@ -191,8 +191,8 @@ unfolding dash signText
 sign-is true negative = refl
 sign-is false negative = refl
 
-pub decimals-text : (negative : Bool) (h : ℕ) → textOf (decimals negative h) ≡ twoDecimals negative h
-unfolding decimals textOf twoDecimals exponent point
+pub decimals-text : (negative : Bool) (h : ℕ) → spelledOf (decimals negative h) ≡ twoDecimals negative h
+unfolding decimals spelledOf twoDecimals exponent point
 decimals-text negative h =
     rw (append-nil (dash (cond (eqb h 0) false negative) ++ wholeText (h / 100) ++ (46 ∷ digits2 h)), sign-is (eqb h 0) negative)
     (sym (append-assoc (cond (eqb h 0) [] (signText negative) ++ wholeText (h / 100)) (46 ∷ []) (digits2 h)))
@@ -224,7 +224,7 @@ abbrev Counted : Bool → ℕ → Parsed → Type 0
 Counted negative h r = (n : Number) × (r ≡ Value n) × (hundredthsOf n ≡ Whole h) × (0 < h → n .negative ≡ negative)
 
 pub decimals-count : (negative : Bool) (h : ℕ) (r : Parsed) → h < 100000
-    → Answers (record { negative = cond (eqb h 0) false negative; digits = h; up = 0; down = 2 }) r → Counted negative h r
+    → ParsesAs (record { negative = cond (eqb h 0) false negative; digits = h; up = 0; down = 2 }) r → Counted negative h r
 unfolding units
 decimals-count negative h r k (nothing z) = (zeroNumber, refl, hundredths-of zeroNumber h (omega arith) (omega arith), λ (g : 0 < h). absurd (omega arith))
 decimals-count negative h r k (number n g f) =

@@ -1,4 +1,4 @@
--- `decimal_text::kept` meets its contract. Each return says which digits are zeros. Assumes nothing.
+-- `decimal_text::kept` meets its contract. Each return says which digits are zeros.
 use mathlib.Core.Path.{sym}
 use Rattle.decimal_text.proofs.Laws.{kept0, kept1, kept2, kept3, kept4, kept5}
 use Rattle.decimal_text.proofs.kept.Statement.{statement}

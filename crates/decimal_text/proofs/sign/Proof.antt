@@ -1,4 +1,4 @@
--- `decimal_text::sign` meets its contract. Assumes nothing.
+-- `decimal_text::sign` meets its contract.
 use borrow.Author.Needs.{needs}
 use Rattle.buffer.specs.Text.{textOf, cut}
 use Rattle.decimal_text.specs.Written.{signText}

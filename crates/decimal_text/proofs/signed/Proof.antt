@@ -1,4 +1,4 @@
--- `decimal_text::signed` meets its contract. Assumes nothing.
+-- `decimal_text::signed` meets its contract.
 use borrow.Author.Needs.{needs}
 use borrow.Author.Tests.{eq-eqb, ne-eqb}
 use Rattle.buffer.specs.Text.{textOf}

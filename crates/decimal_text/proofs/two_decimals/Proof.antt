@@ -1,4 +1,4 @@
--- `decimal_text::two_decimals` meets its contract. Assumes nothing.
+-- `decimal_text::two_decimals` meets its contract.
 use mathlib.Core.Path.{_≡_, _∙_}
 use borrow.Author.Needs.{needs}
 use native.Mathlib.Omega.{arith}

@@ -1,4 +1,4 @@
--- `decimal_text::with_fraction` meets its contract. Assumes nothing.
+-- `decimal_text::with_fraction` meets its contract.
 use borrow.Author.Needs.{needs}
 use native.Mathlib.Omega.{arith}
 use mathlib.Core.List.{append-assoc}

@@ -1,4 +1,4 @@
--- `decimal_text::with_whole` meets its contract. Assumes nothing.
+-- `decimal_text::with_whole` meets its contract.
 use borrow.Author.Needs.{needs}
 use mathlib.Core.List.{append-assoc}
 use borrow.Author.Tests.{lt-ltb, le-ltb}

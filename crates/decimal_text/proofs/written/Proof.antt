@@ -1,4 +1,4 @@
--- `decimal_text::written` meets its contract. Assumes nothing.
+-- `decimal_text::written` meets its contract.
 use mathlib.Core.Path.{_≡_, _∙_}
 use borrow.Author.Needs.{needs}
 use mathlib.Core.List.{append-assoc}

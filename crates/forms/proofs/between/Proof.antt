@@ -1,4 +1,4 @@
--- `forms::between` meets its contract. Assumes nothing.
+-- `forms::between` meets its contract.
 use mathlib.Core.Path.{refl}
 use borrow.Author.Needs.{needs}
 use Rattle.buffer.proofs.Rules.{past, stop, unflag}

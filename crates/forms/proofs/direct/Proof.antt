@@ -1,4 +1,4 @@
--- `forms::direct` meets its contract. Assumes nothing.
+-- `forms::direct` meets its contract.
 use mathlib.Core.Path.{sym, ap}
 use borrow.Author.Needs.{needs}
 use Rattle.forms.specs.Forms.{directOf}

@@ -1,8 +1,9 @@
--- `forms::factor_in` meets its contract. Assumes nothing.
-use mathlib.Core.Path.{sym, ap}
+-- `forms::factor_in` meets its contract. A factor within its limits fits its field.
+use mathlib.Core.Path.{sym, ap, _∙_}
 use borrow.Author.Needs.{needs}
+use borrow.Author.Tests.{not-true, not-false}
 use Rattle.buffer.specs.First.{pick}
-use Rattle.buffer.proofs.Laws.{within-in, within-below, within-above}
+use Rattle.settings.proofs.Laws.{factor-small}
 use Rattle.forms.specs.Forms.{factorIn}
 use Rattle.forms.proofs.factor_in.Statement.{statement}
 use Rattle.forms.proofs.factor_in.Tie as tie
@@ -15,9 +16,7 @@ factor-in-spec =
     (λ c. search needs)
     (λ c. search needs)
     (λ c. sym (ap factorIn (c .enum-told .given .1)))
-    (λ c. search needs)
-    (λ c. rw (c .before .before .h .given .1, within-below 20 800 _ (c .if1 .taken)))
-    (λ c. search needs)
-    (λ c. rw (c .before .before .before .h .given .1, within-above 20 800 _ (c .if2 .taken)))
-    (λ c. search needs)
-    (λ c. rw (c .before .before .before .h .given .1, within-in 20 800 _ (c .before .if1 .left) (c .if2 .left))))
+    (λ c κs. search needs)
+    (λ c. rw (c .before .before .before .h .given .1, sym (c .before .is-factor .ensures) ∙ not-true _ (c .if1 .taken)))
+    (λ c. record { fits = factor-small _ (sym (c .before .is-factor .ensures) ∙ not-false _ (c .if1 .left)) })
+    (λ c. rw (c .before .before .before .h .given .1, sym (c .before .is-factor .ensures) ∙ not-false _ (c .if1 .left))))

@@ -1,4 +1,4 @@
--- `forms::factor_of` meets its contract. Assumes nothing.
+-- `forms::factor_of` meets its contract.
 use mathlib.Core.Path.{sym, ap}
 use borrow.Author.Needs.{needs}
 use Rattle.buffer.specs.First.{pick}

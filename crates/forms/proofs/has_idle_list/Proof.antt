@@ -1,4 +1,4 @@
--- `forms::has_idle_list` meets its contract. Assumes nothing.
+-- `forms::has_idle_list` meets its contract.
 use mathlib.Core.Path.{sym, _∙_}
 use borrow.Author.Needs.{needs}
 use Rattle.forms.specs.Forms.{idleList}

@@ -1,4 +1,4 @@
--- `forms::has_mode` meets its contract. Assumes nothing.
+-- `forms::has_mode` meets its contract.
 use mathlib.Core.Path.{sym, _∙_}
 use borrow.Author.Needs.{needs}
 use Rattle.forms.specs.Forms.{knownMode}

@@ -1,4 +1,4 @@
--- `forms::in_limits` meets its contract. Assumes nothing.
+-- `forms::in_limits` meets its contract.
 use mathlib.Core.Path.{sym, ap, _∙_}
 use borrow.Author.Needs.{needs}
 use Rattle.buffer.specs.First.{pick}

@@ -1,4 +1,4 @@
--- `forms::judge` meets its contract. Assumes nothing.
+-- `forms::judge` meets its contract.
 use mathlib.Core.Path.{_∙_}
 use borrow.Author.Needs.{needs}
 use Rattle.forms.specs.Judged.{verdictOf, listIn}

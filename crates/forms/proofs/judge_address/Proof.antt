@@ -1,4 +1,4 @@
--- `forms::judge_address` meets its contract. Assumes nothing.
+-- `forms::judge_address` meets its contract.
 use mathlib.Core.Path.{_≡_, sym, ap, _∙_}
 use native.Mathlib.Omega.{arith}
 use borrow.Author.Needs.{needs}

@@ -1,4 +1,4 @@
--- `forms::judge_cathode` meets its contract. Assumes nothing.
+-- `forms::judge_cathode` meets its contract.
 use borrow.Author.Needs.{needs}
 use Rattle.forms.specs.Forms.{digitOf}
 use Rattle.forms.proofs.judge_cathode.Statement.{statement}

@@ -1,4 +1,4 @@
--- `forms::judge_control` meets its contract. Assumes nothing.
+-- `forms::judge_control` meets its contract.
 use borrow.Author.Needs.{needs}
 use Rattle.forms.specs.Forms.{digitOf}
 use Rattle.forms.proofs.judge_control.Statement.{statement}

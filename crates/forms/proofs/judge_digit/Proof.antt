@@ -1,4 +1,4 @@
--- `forms::judge_digit` meets its contract. Assumes nothing.
+-- `forms::judge_digit` meets its contract.
 use mathlib.Core.Path.{sym, _∙_}
 use borrow.Author.Needs.{needs}
 use borrow.Author.Tests.{lt-ltb, le-ltb, eq-eqb, ne-eqb, not-true, not-false}

@@ -1,4 +1,4 @@
--- `forms::judge_ends` meets its contract. Assumes nothing.
+-- `forms::judge_ends` meets its contract.
 use mathlib.Core.Path.{sym, ap}
 use borrow.Author.Needs.{needs}
 use Rattle.forms.specs.Forms.{transitionOf}

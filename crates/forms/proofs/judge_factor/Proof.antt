@@ -1,4 +1,4 @@
--- `forms::judge_factor` meets its contract. Assumes nothing.
+-- `forms::judge_factor` meets its contract.
 use borrow.Author.Needs.{needs}
 use Rattle.forms.proofs.judge_factor.Statement.{statement}
 use Rattle.forms.proofs.judge_factor.Tie as tie

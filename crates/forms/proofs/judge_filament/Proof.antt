@@ -1,4 +1,4 @@
--- `forms::judge_filament` meets its contract. Assumes nothing.
+-- `forms::judge_filament` meets its contract.
 use borrow.Author.Needs.{needs}
 use Rattle.forms.specs.Forms.{digitOf}
 use Rattle.forms.proofs.judge_filament.Statement.{statement}

@@ -1,4 +1,4 @@
--- `forms::judge_stream` meets its contract. Assumes nothing.
+-- `forms::judge_stream` meets its contract.
 use mathlib.Core.Path.{sym, _∙_}
 use borrow.Author.Needs.{needs}
 use Rattle.forms.specs.Forms.{streamData}

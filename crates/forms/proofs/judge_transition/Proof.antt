@@ -1,4 +1,4 @@
--- `forms::judge_transition` meets its contract. Assumes nothing.
+-- `forms::judge_transition` meets its contract.
 use borrow.Author.Needs.{needs}
 use Rattle.forms.specs.Forms.{transitionData}
 use Rattle.forms.proofs.judge_transition.Statement.{statement}

@@ -1,4 +1,4 @@
--- `forms::judge_unit` meets its contract. Assumes nothing.
+-- `forms::judge_unit` meets its contract.
 use mathlib.Core.Path.{sym, _∙_}
 use borrow.Author.Needs.{needs}
 use Rattle.buffer.specs.First.{pick}

@@ -1,4 +1,4 @@
--- `forms::plain` meets its contract. Assumes nothing.
+-- `forms::plain` meets its contract.
 use mathlib.Core.Path.{refl}
 use Rattle.sources.specs.Source.{listOf, Counted}
 use Rattle.forms.proofs.plain.Statement.{statement}

@@ -1,4 +1,4 @@
--- `forms::read_ends` meets its contract. Assumes nothing.
+-- `forms::read_ends` meets its contract.
 use mathlib.Core.Path.{sym, _∙_}
 use native.Mathlib.Omega.{arith}
 use borrow.Author.Needs.{needs}

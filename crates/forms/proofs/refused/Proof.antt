@@ -1,4 +1,4 @@
--- `forms::refused` meets its contract. Assumes nothing.
+-- `forms::refused` meets its contract.
 use mathlib.Core.Path.{refl}
 use Rattle.sources.specs.Source.{listOf, Counted}
 use Rattle.forms.proofs.refused.Statement.{statement}

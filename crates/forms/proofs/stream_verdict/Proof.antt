@@ -1,4 +1,4 @@
--- `forms::stream_verdict` meets its contract. Assumes nothing.
+-- `forms::stream_verdict` meets its contract.
 use mathlib.Core.Path.{sym, _∙_}
 use borrow.Author.Needs.{needs}
 use borrow.Author.Tests.{eq-eqb, ne-eqb, not-true, not-false}

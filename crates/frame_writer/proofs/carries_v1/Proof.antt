@@ -1,4 +1,4 @@
--- `frame_writer::carries_v1` meets its contract. Assumes nothing.
+-- `frame_writer::carries_v1` meets its contract.
 use mathlib.Core.Path.{sym, _∙_}
 use borrow.Author.Needs.{needs}
 use borrow.Author.Tests.{not-true, not-false}

@@ -1,4 +1,4 @@
--- `frame_writer::carries_v2` meets its contract. Assumes nothing.
+-- `frame_writer::carries_v2` meets its contract.
 use mathlib.Core.Path.{_≡_, sym, _∙_}
 use mathlib.Core.Bool.{false}
 use borrow.Author.Needs.{needs}

@@ -1,4 +1,4 @@
--- `frame_writer::data_fit` meets its contract. Assumes nothing.
+-- `frame_writer::data_fit` meets its contract.
 use borrow.Author.Needs.{needs}
 use borrow.Author.Tests.{le-leb, lt-leb}
 use Rattle.frame_writer.specs.Written.{dataFit}

@@ -1,4 +1,4 @@
--- `frame_writer::is_address` meets its contract. Assumes nothing.
+-- `frame_writer::is_address` meets its contract.
 use Rattle.buffer.specs.Byte.{within}
 use Rattle.buffer.proofs.Rules.{tests}
 use Rattle.frame_writer.proofs.is_address.Statement.{statement}

@@ -1,4 +1,4 @@
--- `frame_writer::put_end` meets its contract. Assumes nothing.
+-- `frame_writer::put_end` meets its contract.
 use mathlib.Core.Path.{sym}
 use native.Mathlib.Omega.{arith}
 use borrow.Author.Needs.{needs}

@@ -1,4 +1,4 @@
--- `frame_writer::write_error_v1` meets its contract: letter and data of each number. Assumes nothing.
+-- `frame_writer::write_error_v1` meets its contract: letter and data of each number.
 use mathlib.Core.Path.{_≡_}
 use borrow.Author.Needs.{needs}
 use borrow.Author.Tests.{ne-eqb}

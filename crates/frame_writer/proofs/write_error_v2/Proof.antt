@@ -1,4 +1,4 @@
--- `frame_writer::write_error_v2` meets its contract. Assumes nothing.
+-- `frame_writer::write_error_v2` meets its contract.
 use borrow.Author.Needs.{needs}
 use Rattle.frame_writer.specs.Error.{errorHeadV2}
 use Rattle.frame_writer.proofs.write_error_v2.Statement.{statement}

@@ -1,4 +1,4 @@
--- `frame_writer::write_frame` meets its contract. Each refusal by its tests; the head, the data and the end, one after the other. Assumes nothing.
+-- `frame_writer::write_frame` meets its contract. Each refusal by its tests; the head, the data and the end, one after the other.
 use mathlib.Core.Path.{sym}
 use Prim.Native.Nat.{_+_}
 use native.Mathlib.Omega.{arith}

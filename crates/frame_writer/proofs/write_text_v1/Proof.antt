@@ -1,4 +1,4 @@
--- `frame_writer::write_text_v1` meets its contract. Assumes nothing.
+-- `frame_writer::write_text_v1` meets its contract.
 use native.Mathlib.Omega.{arith}
 use borrow.Author.Needs.{needs}
 use lib.ListN.{length, length-take}

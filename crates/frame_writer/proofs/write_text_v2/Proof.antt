@@ -1,4 +1,4 @@
--- `frame_writer::write_text_v2` meets its contract. Assumes nothing.
+-- `frame_writer::write_text_v2` meets its contract.
 use mathlib.Core.Path.{_≡_}
 use native.Mathlib.Omega.{arith}
 use borrow.Author.Needs.{needs}

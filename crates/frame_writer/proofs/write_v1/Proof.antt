@@ -1,4 +1,4 @@
--- `frame_writer::write_v1` meets its contract. Assumes nothing.
+-- `frame_writer::write_v1` meets its contract.
 use borrow.Author.Needs.{needs}
 use Rattle.frame_writer.specs.Written.{frameV1}
 use Rattle.frame_writer.proofs.write_v1.Statement.{statement}

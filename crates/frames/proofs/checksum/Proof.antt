@@ -1,4 +1,4 @@
--- `frames::checksum` meets its contract. The invariant: the sum so far and the sum of what is left are the whole sum, mod 64. Assumes nothing.
+-- `frames::checksum` meets its contract. The invariant: the sum so far and the sum of what is left are the whole sum, mod 64.
 use mathlib.Core.Path.{_≡_}
 use Prim.Native.Nat.{_+_, _-_, _%_, _≤_, _<_}
 use native.Mathlib.Omega.{arith}

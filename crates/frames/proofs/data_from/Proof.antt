@@ -1,4 +1,4 @@
--- `frames::data_from` meets its contract. Assumes nothing.
+-- `frames::data_from` meets its contract.
 use mathlib.Core.Path.{sym}
 use Prim.Native.Nat.{_-_}
 use native.Mathlib.Omega.{arith}

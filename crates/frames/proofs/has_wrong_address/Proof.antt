@@ -1,4 +1,4 @@
--- `frames::has_wrong_address` meets its contract. Assumes nothing.
+-- `frames::has_wrong_address` meets its contract.
 use native.Mathlib.Omega.{arith}
 use borrow.Author.Needs.{needs}
 use lib.ListN.{length-take}

@@ -1,4 +1,4 @@
--- `frames::has_wrong_length` meets its contract. Assumes nothing.
+-- `frames::has_wrong_length` meets its contract.
 use mathlib.Core.Path.{_≡_}
 use Prim.Native.Nat.{_-_}
 use native.Mathlib.Omega.{arith}

@@ -1,4 +1,4 @@
--- `frames::is_letter` meets its contract. Assumes nothing.
+-- `frames::is_letter` meets its contract.
 use mathlib.Core.Path.{sym, _∙_}
 use borrow.Author.Needs.{needs}
 use Rattle.frames.specs.Frame.{isLetter}

@@ -1,4 +1,4 @@
--- `frames::is_misshapen` meets its contract. Assumes nothing.
+-- `frames::is_misshapen` meets its contract.
 use mathlib.Core.Path.{sym, _∙_}
 use Prim.Native.Nat.{_≤_}
 use native.Mathlib.Omega.{arith}

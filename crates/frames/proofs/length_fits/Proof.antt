@@ -1,4 +1,4 @@
--- `frames::length_fits` meets its contract. Assumes nothing.
+-- `frames::length_fits` meets its contract.
 use borrow.Author.Needs.{needs}
 use Rattle.buffer.proofs.Rules.{rules}
 use Rattle.frames.specs.Frame.{lengthFits}

@@ -1,4 +1,4 @@
--- `frames::read_frame` meets its contract: each answer by the tests that led there. Assumes nothing.
+-- `frames::read_frame` meets its contract: each answer by the tests that led there.
 use mathlib.Core.Path.{sym, _∙_}
 use Prim.Native.Nat.{_≤_}
 use native.Mathlib.Omega.{arith}

@@ -1,4 +1,4 @@
--- `gauge::answer_all` is safe and ends: each turn takes bytes of the input, or is the last. Assumes nothing.
+-- `gauge::answer_all` is safe and ends: each turn takes bytes of the input, or is the last.
 use mathlib.Core.Path.{_≡_, refl, ap, _∙_}
 use Prim.Native.Nat.{_-_, _≤_}
 use native.Mathlib.Omega.{arith}

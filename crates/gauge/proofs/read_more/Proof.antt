@@ -1,4 +1,4 @@
--- `gauge::read_more` meets its contract. Assumes nothing.
+-- `gauge::read_more` meets its contract.
 use mathlib.Core.Path.{ap}
 use native.Mathlib.Omega.{arith}
 use lib.ListN.{length, length-drop}

@@ -1,4 +1,4 @@
--- `gauge::run` is safe and ends: its turns fall. Assumes nothing.
+-- `gauge::run` is safe and ends: its turns fall.
 use Prim.Native.Nat.{_≤_}
 use native.Mathlib.Omega.{arith}
 use lib.ListN.{length}

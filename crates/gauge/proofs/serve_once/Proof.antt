@@ -1,4 +1,4 @@
--- `gauge::serve_once` meets its contract. Assumes nothing.
+-- `gauge::serve_once` meets its contract.
 use native.Mathlib.Omega.{arith}
 use lib.ListN.{length-take}
 use borrow.Author.Needs.{needs}

@@ -1,4 +1,4 @@
--- `gauge::start` is safe and ends. Assumes nothing.
+-- `gauge::start` is safe and ends.
 use Prim.Native.Nat.{_-_}
 use native.Mathlib.Omega.{arith}
 use Rattle.gauge.proofs.start.Statement.{statement}

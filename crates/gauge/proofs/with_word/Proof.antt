@@ -1,4 +1,4 @@
--- `gauge::with_word` is safe. Assumes nothing.
+-- `gauge::with_word` is safe.
 use native.Mathlib.Omega.{arith}
 use lib.ListN.{length-take}
 use borrow.Author.Needs.{needs}

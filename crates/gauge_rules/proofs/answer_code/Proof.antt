@@ -1,4 +1,4 @@
--- `gauge_rules::answer_code` meets its contract. Assumes nothing.
+-- `gauge_rules::answer_code` meets its contract.
 use mathlib.Core.Path.{sym, ap}
 use borrow.Author.Needs.{needs}
 use Rattle.gauge_rules.specs.RulesV2.{answerCode}

@@ -1,4 +1,4 @@
--- `gauge_rules::breaks_rule` meets its contract. Assumes nothing.
+-- `gauge_rules::breaks_rule` meets its contract.
 use mathlib.Core.Path.{refl, sym, _∙_}
 use borrow.Author.Needs.{needs}
 use Rattle.gauge_rules.proofs.breaks_rule.Statement.{statement}

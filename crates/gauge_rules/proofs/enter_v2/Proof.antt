@@ -1,4 +1,4 @@
--- `gauge_rules::enter_v2` meets its contract. Assumes nothing.
+-- `gauge_rules::enter_v2` meets its contract.
 use mathlib.Core.Path.{sym, _∙_}
 use borrow.Author.Needs.{needs}
 use Rattle.sources.specs.Source.{listOf}

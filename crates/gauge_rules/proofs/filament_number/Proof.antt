@@ -1,4 +1,4 @@
--- `gauge_rules::filament_number` meets its contract. Assumes nothing.
+-- `gauge_rules::filament_number` meets its contract.
 use mathlib.Core.Path.{refl}
 use borrow.Author.Needs.{needs}
 use borrow.Author.Tests.{eq-eqb, ne-eqb}

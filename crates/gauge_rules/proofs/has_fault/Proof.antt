@@ -1,4 +1,4 @@
--- `gauge_rules::has_fault` meets its contract. Assumes nothing.
+-- `gauge_rules::has_fault` meets its contract.
 use borrow.Author.Needs.{needs}
 use Rattle.gauge_rules.specs.RulesV2.{readsFaulty}
 use Rattle.gauge_rules.proofs.has_fault.Statement.{statement}
@@ -16,8 +16,8 @@ has-fault-spec =
     (λ c. search needs)
     (λ c. search needs)
     (λ c. search needs)
-    (λ c. rw (c .before .enum-told .given .1) (c .is-faulty .ensures))
-    (λ c. rw (c .before .enum-told2 .given .1) (c .is-failed .ensures))
+    (λ c. rw (c .before .enum-told .given .1) (c .is-faulty-pressure .ensures))
+    (λ c. rw (c .before .enum-told2 .given .1) (c .is-faulty-temperature .ensures))
     (λ c. rw (c .enum-told3 .given .1))
     (λ c. rw (c .enum-told4 .given .1))
     (λ c. rw (c .enum-told5 .given .1)))

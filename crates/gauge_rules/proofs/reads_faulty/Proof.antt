@@ -1,4 +1,4 @@
--- `gauge_rules::reads_faulty` meets its contract. Assumes nothing.
+-- `gauge_rules::reads_faulty` meets its contract.
 use borrow.Author.Needs.{needs}
 use Rattle.gauge_rules.specs.RulesV2.{readsFaulty}
 use Rattle.gauge_rules.proofs.reads_faulty.Statement.{statement}

@@ -1,4 +1,4 @@
--- `gauge_rules::restored` meets its contract. Assumes nothing.
+-- `gauge_rules::restored` meets its contract.
 use borrow.Author.Needs.{needs}
 use Rattle.gauge_rules.specs.RulesV2.{enterV2}
 use Rattle.gauge_rules.proofs.restored.Statement.{statement}

@@ -1,4 +1,4 @@
--- `gauge_rules::restores_cathode` meets its contract. Assumes nothing.
+-- `gauge_rules::restores_cathode` meets its contract.
 use borrow.Author.Needs.{needs}
 use Rattle.gauge_rules.specs.RulesV2.{changesCathode}
 use Rattle.gauge_rules.proofs.restores_cathode.Statement.{statement}

@@ -1,4 +1,4 @@
--- `gauge_rules::sent_text` meets its contract. Assumes nothing.
+-- `gauge_rules::sent_text` meets its contract.
 use borrow.Author.Needs.{needs}
 use Rattle.gauge_rules.specs.RulesV2.{sentText}
 use Rattle.gauge_rules.proofs.sent_text.Statement.{statement}

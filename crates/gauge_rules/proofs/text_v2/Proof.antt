@@ -1,4 +1,4 @@
--- `gauge_rules::text_v2` meets its contract. Assumes nothing.
+-- `gauge_rules::text_v2` meets its contract.
 use borrow.Author.Needs.{needs}
 use Rattle.buffer.specs.Text.{textOf}
 use Rattle.gauge_rules.specs.RulesV2.{textV2}

@@ -1,13 +1,12 @@
--- `gauge_rules_v1::enter_factor` meets its contract. An accepted factor fits its field. Assumes nothing.
+-- `gauge_rules_v1::enter_factor` meets its contract. An accepted factor fits its field.
 use mathlib.Core.Path.{_≡_, refl, sym, _∙_}
 use mathlib.Core.Bool.{false}
 use borrow.Author.Needs.{needs}
 use borrow.Author.Tests.{eq-eqb, ne-eqb}
-use native.Mathlib.Omega.{arith}
 use lib.Dec.{eqb}
 use Rattle.buffer.specs.First.{pick}
-use Rattle.buffer.proofs.Laws.{within-true}
 use Rattle.sources.specs.Source.{listOf, Counted}
+use Rattle.settings.proofs.Laws.{factor-small}
 use Rattle.gauge_rules_v1.specs.RulesV1.{factorNumber}
 use Rattle.gauge_rules_v1.proofs.Laws.{factor-in}
 use Rattle.gauge_rules_v1.proofs.enter_factor.Statement.{statement}
@@ -23,8 +22,7 @@ returns c =
 cast-t6 : tie.Need-cast-t6
 cast-t6 c =
     let a = c .before .before .args in
-    let h = within-true 20 800 (a .n) (factor-in (a .unlocked) (a .n) (sym (c .before .factor-number .ensures) ∙ c .if1 .left)) in
-    record { fits = omega (arith, h .1) }
+    record { fits = factor-small (a .n) (factor-in (a .unlocked) (a .n) (sym (c .before .factor-number .ensures) ∙ c .if1 .left)) }
 
 returns-2 : tie.Need-returns-2
 unfolding pick listOf Counted

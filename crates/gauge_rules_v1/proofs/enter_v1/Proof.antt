@@ -1,4 +1,4 @@
--- `gauge_rules_v1::enter_v1` meets its contract. Assumes nothing.
+-- `gauge_rules_v1::enter_v1` meets its contract.
 use mathlib.Core.Path.{refl}
 use borrow.Author.Needs.{needs}
 use Rattle.buffer.specs.First.{pick}

@@ -1,4 +1,4 @@
--- `gauge_rules_v1::number_v1` meets its contract. Assumes nothing.
+-- `gauge_rules_v1::number_v1` meets its contract.
 use mathlib.Core.Path.{refl, sym, _∙_}
 use borrow.Author.Needs.{needs}
 use Rattle.buffer.specs.First.{pick}
@@ -13,14 +13,14 @@ number-v1-spec =
     (tie.spec
     (λ c. search needs)
     (λ c κs. search needs)
-    (λ c. rw (c .before .before .enum-told .given .1, sym (c .before .is-faulty .ensures) ∙ c .if1 .taken) refl)
+    (λ c. rw (c .before .before .enum-told .given .1, sym (c .before .is-faulty-pressure .ensures) ∙ c .if1 .taken) refl)
     (λ c. search needs)
     (λ c κs. search needs)
     (λ c. search needs)
     (λ c. search needs)
     (λ c. search needs)
     (λ c. search needs)
-    (λ c. rw (c .before .before .enum-told .given .1, sym (c .before .is-faulty .ensures) ∙ c .if1 .left))
+    (λ c. rw (c .before .before .enum-told .given .1, sym (c .before .is-faulty-pressure .ensures) ∙ c .if1 .left))
     (λ c. rw (c .before .before .request .given .1) (c .factor-number .ensures))
     (λ c. rw (c .enum-told2 .given .1))
     (λ c. rw (c .enum-told3 .given .1))

@@ -1,4 +1,4 @@
--- `gauge_rules_v1::repeats_request` meets its contract. Assumes nothing.
+-- `gauge_rules_v1::repeats_request` meets its contract.
 use mathlib.Core.Path.{sym, ap}
 use borrow.Author.Needs.{needs}
 use Rattle.gauge_rules_v1.specs.RulesV1.{repeats}

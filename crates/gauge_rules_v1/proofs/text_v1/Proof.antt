@@ -1,4 +1,4 @@
--- `gauge_rules_v1::text_v1` meets its contract. Assumes nothing.
+-- `gauge_rules_v1::text_v1` meets its contract.
 use borrow.Author.Needs.{needs}
 use Rattle.buffer.specs.Text.{textOf}
 use Rattle.gauge_rules_v1.specs.RulesV1.{textV1}
@@ -23,7 +23,7 @@ text-v1-spec =
     (λ c. search needs)
     (λ c. rw (c .before .enum-told .given .1) (c .measure-text .ensures))
     (λ c. rw (c .before .before .enum-told2 .given .1) (c .six-digits .ensures))
-    (λ c. rw (c .before .before .enum-told3 .given .1, ← (c .before .unit-code .ensures)) (c .six-digits2 .ensures))
+    (λ c. rw (c .before .before .enum-told3 .given .1, ← (c .before .unit-number .ensures)) (c .six-digits2 .ensures))
     (λ c. rw (c .enum-told4 .given .1))
     (λ c. rw (c .enum-told5 .given .1))
     (λ c. rw (c .enum-told6 .given .1)))

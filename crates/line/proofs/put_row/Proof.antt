@@ -1,4 +1,4 @@
--- `line::put_row` meets its contract. Assumes nothing.
+-- `line::put_row` meets its contract.
 use mathlib.Core.Path.{_≡_}
 use Prim.Native.Nat.{_≤_}
 use native.Mathlib.Omega.{arith}

@@ -1,4 +1,4 @@
--- `line::put_tail` meets its contract. The invariant: with the rows that are left stored from p on, the memory is as it is to be. Assumes nothing.
+-- `line::put_tail` meets its contract. The invariant: with the rows that are left stored from p on, the memory is as it is to be.
 use mathlib.Core.Path.{_≡_, refl, _∙_}
 use mathlib.Core.Bool.{true, false}
 use mathlib.Core.List.{[], _∷_, _++_}

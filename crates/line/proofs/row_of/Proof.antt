@@ -1,4 +1,4 @@
--- `line::row_of` meets its contract. Assumes nothing.
+-- `line::row_of` meets its contract.
 use mathlib.Core.Path.{_≡_, sym, ap, _∙_}
 use native.Mathlib.Omega.{arith}
 use borrow.Author.Needs.{needs}

@@ -1,4 +1,4 @@
--- `line::stream_line` meets its contract. Assumes nothing.
+-- `line::stream_line` meets its contract.
 use mathlib.Core.Path.{_≡_, ap, _∙_}
 use mathlib.Core.Bool.{true, false, not}
 use Prim.Native.Nat.{_<_, _≤_}

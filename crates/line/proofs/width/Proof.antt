@@ -1,4 +1,4 @@
--- `line::width` meets its contract. Assumes nothing.
+-- `line::width` meets its contract.
 use Rattle.buffer.proofs.Rules.{rules}
 use Rattle.settings.specs.Limits.{widthOf}
 use Rattle.line.proofs.width.Statement.{statement}

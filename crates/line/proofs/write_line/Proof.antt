@@ -1,4 +1,4 @@
--- `line::write_line` meets its contract. The first row, the others and the end, one after the other. Assumes nothing.
+-- `line::write_line` meets its contract. The first row, the others and the end, one after the other.
 use mathlib.Core.Path.{_≡_}
 use mathlib.Core.List.{[], _++_}
 use Prim.Native.Nat.{_+_}

@@ -1,4 +1,4 @@
--- `long_decimal::count_significant` meets its contract. The invariant: what counts so far, and what is left, make the whole. Assumes nothing.
+-- `long_decimal::count_significant` meets its contract. The invariant: what counts so far, and what is left, make the whole.
 use mathlib.Core.Path.{_≡_, sym, _∙_}
 use Prim.Native.Nat.{_-_, _≤_}
 use native.Mathlib.Omega.{arith}

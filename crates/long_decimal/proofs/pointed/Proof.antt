@@ -1,11 +1,11 @@
--- `long_decimal::pointed` meets its contract. Assumes nothing.
+-- `long_decimal::pointed` meets its contract.
 use mathlib.Core.Path.{refl}
 use native.Mathlib.Omega.{arith}
 use borrow.Author.Needs.{needs}
 use borrow.Author.Tests.{le-ltb, lt-ltb}
 use lib.ListN.{length-take}
 use Rattle.buffer.proofs.Rules.{past, stop}
-use Rattle.decimal.proofs.Laws.{leading-le}
+use Rattle.buffer.proofs.Laws.{leading-le}
 use Rattle.long_decimal.specs.Long.{pointedOf}
 use Rattle.long_decimal.proofs.pointed.Statement.{statement}
 use Rattle.long_decimal.proofs.pointed.Tie as tie

@@ -1,4 +1,4 @@
--- `long_decimal::read_decimal` meets its contract. Assumes nothing.
+-- `long_decimal::read_decimal` meets its contract.
 use borrow.Author.Needs.{needs}
 use Rattle.buffer.proofs.Rules.{past, stop, flag}
 use Rattle.long_decimal.specs.Long.{decimalOf}

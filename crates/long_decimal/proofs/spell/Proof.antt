@@ -1,4 +1,4 @@
--- `long_decimal::spell` meets its contract. Assumes nothing.
+-- `long_decimal::spell` meets its contract.
 use mathlib.Core.Path.{refl, _∙_}
 use native.Mathlib.Omega.{arith}
 use borrow.Author.Needs.{needs}
@@ -16,7 +16,7 @@ returns-3 c =
     let k = m .before .before in
     c .value-of .ensures
     ∙ whole-is _ _ _ _ _ _ _ (m .count-significant2 .ensures) (k .count-significant .ensures) (c .before .spell-after .ensures)
-      (k .before .before .if1 .left) (k .before .if2 .left) (m .before .if3 .taken)
+    (k .before .before .if1 .left) (k .before .if2 .left) (m .before .if3 .taken)
 
 returns-4 : tie.Need-returns-4
 returns-4 c =
@@ -24,7 +24,7 @@ returns-4 c =
     let k = v .before .before in
     c .value-of2 .ensures
     ∙ pointed-is _ _ _ _ _ _ _ (k .count-significant .ensures) (v .spell-after2 .ensures) (c .before .spell-after3 .ensures)
-      (k .before .before .if1 .left) (k .before .if2 .left) (v .before .if3 .left)
+    (k .before .before .if1 .left) (k .before .if2 .left) (v .before .if3 .left)
 
 pub spell-spec : {M : Type 1} → statement M
 unfolding spelledOf

@@ -1,4 +1,4 @@
--- `long_decimal::spell_after` meets its contract. The invariant: what is left, after n, spells the whole. Assumes nothing.
+-- `long_decimal::spell_after` meets its contract. The invariant: what is left, after n, spells the whole.
 use mathlib.Core.Path.{_≡_, refl, sym, _∙_}
 use Prim.Native.Nat.{_-_, _≤_}
 use native.Mathlib.Omega.{arith}

@@ -1,10 +1,10 @@
--- `long_decimal::value_of` meets its contract. Assumes nothing.
+-- `long_decimal::value_of` meets its contract.
 use mathlib.Core.Path.{refl, sym, ap, subst, _∙_}
 use native.Mathlib.Omega.{arith}
 use borrow.Author.Needs.{needs}
 use borrow.Author.Tests.{le-leb, lt-leb}
 use Rattle.buffer.proofs.Rules.{past, stop}
-use Rattle.long_decimal.specs.Long.{movedOf, valueOf}
+use Rattle.long_decimal.specs.Long.{movedOf, decimalValue}
 use Rattle.long_decimal.proofs.Laws.{SmallScan, exponent-small}
 use Rattle.long_decimal.proofs.value_of.Statement.{statement}
 use Rattle.long_decimal.proofs.value_of.Tie as tie
@@ -24,19 +24,19 @@ add-t11 c =
     omega (arith, m .down, a .pre .1)
 
 returns-2 : tie.Need-returns-2
-unfolding valueOf movedOf
+unfolding decimalValue movedOf
 returns-2 c =
     let r = c .before .before .before .before .before in
     past _ _ _ _ (lt-leb 1000000 _ (r .before .if1 .left)) (ap (movedOf _ _) (sym (c .before .before .before .x .given .1) ∙ r .read-exponent .ensures))
 
 returns-3 : tie.Need-returns-3
-unfolding valueOf movedOf
+unfolding decimalValue movedOf
 returns-3 c =
     let r = c .before .before in
     past _ _ _ _ (lt-leb 1000000 _ (r .before .if1 .left)) (ap (movedOf _ _) (sym (c .enum-told .given .1) ∙ r .read-exponent .ensures))
 
 pub value-of-spec : {M : Type 1} → statement M
-unfolding valueOf
+unfolding decimalValue
 value-of-spec =
     tie.close
     (tie.spec

@@ -1,4 +1,4 @@
--- `opg_answer::answer` meets its contract. Assumes nothing.
+-- `opg_answer::answer` meets its contract.
 use mathlib.Core.Path.{ap, _∙_}
 use borrow.Author.Needs.{needs}
 use lib.ListN.{length}

@@ -1,4 +1,4 @@
--- `opg_answer::bits` meets its contract. Assumes nothing.
+-- `opg_answer::bits` meets its contract.
 use mathlib.Core.Path.{sym, ap}
 use borrow.Author.Needs.{needs}
 use Rattle.opg_answer.specs.Reply.{bitsOf}

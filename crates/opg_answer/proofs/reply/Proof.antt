@@ -1,4 +1,4 @@
--- `opg_answer::reply` meets its contract. Assumes nothing.
+-- `opg_answer::reply` meets its contract.
 use borrow.Author.Needs.{needs}
 use mathlib.Core.Path.{refl}
 use Rattle.buffer.proofs.Laws.{refuses}

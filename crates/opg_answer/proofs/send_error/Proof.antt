@@ -1,4 +1,4 @@
--- `opg_answer::send_error` meets its contract. Assumes nothing.
+-- `opg_answer::send_error` meets its contract.
 use borrow.Author.Needs.{needs}
 use borrow.Author.Tests.{ne-eqb}
 use Rattle.buffer.specs.First.{pick}

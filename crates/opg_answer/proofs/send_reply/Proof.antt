@@ -1,4 +1,4 @@
--- `opg_answer::send_reply` meets its contract. Assumes nothing.
+-- `opg_answer::send_reply` meets its contract.
 use Prim.Native.Nat.{_≤_}
 use native.Mathlib.Omega.{arith}
 use borrow.Author.Needs.{needs}

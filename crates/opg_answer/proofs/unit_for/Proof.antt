@@ -1,4 +1,4 @@
--- `opg_answer::unit_for` meets its contract. Assumes nothing.
+-- `opg_answer::unit_for` meets its contract.
 use Rattle.buffer.proofs.Rules.{rules}
 use Rattle.opg_answer.specs.Reply.{unitOf}
 use Rattle.opg_answer.proofs.unit_for.Statement.{statement}

@@ -1,4 +1,4 @@
--- `opg_commands::is_outside` meets its contract: each arm by its constructor. Assumes nothing.
+-- `opg_commands::is_outside` meets its contract: each arm by its constructor.
 use mathlib.Core.Path.{sym, ap, _∙_}
 use mathlib.Core.Bool.{not}
 use borrow.Author.Needs.{needs}

@@ -1,4 +1,4 @@
--- `opg_commands::reply_count` meets its contract: each arm by its constructor. Assumes nothing.
+-- `opg_commands::reply_count` meets its contract: each arm by its constructor.
 use mathlib.Core.Path.{sym, ap}
 use borrow.Author.Needs.{needs}
 use Rattle.opg_commands.specs.Request.{replyCount}

@@ -1,4 +1,4 @@
--- `opg_crc::byte` meets its contract. Assumes nothing.
+-- `opg_crc::byte` meets its contract.
 use native.Mathlib.Omega.{arith}
 use borrow.Author.Needs.{needs}
 use lib.Bits.{xor-lt}

@@ -1,4 +1,4 @@
--- `opg_crc::crc` meets its contract. The invariant: the CRC of what is left, from the number so far, is the whole CRC. Assumes nothing.
+-- `opg_crc::crc` meets its contract. The invariant: the CRC of what is left, from the number so far, is the whole CRC.
 use mathlib.Core.Path.{_≡_, refl, sym, _∙_}
 use Prim.Native.Nat.{_-_, _≤_, _<_}
 use native.Mathlib.Omega.{arith}

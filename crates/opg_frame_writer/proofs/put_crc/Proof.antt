@@ -1,4 +1,4 @@
--- `opg_frame_writer::put_crc` meets its contract. Assumes nothing.
+-- `opg_frame_writer::put_crc` meets its contract.
 use mathlib.Core.Path.{sym}
 use native.Mathlib.Omega.{arith}
 use borrow.Author.Needs.{needs}

@@ -1,4 +1,4 @@
--- `opg_frame_writer::write_request_frame` meets its contract. Assumes nothing.
+-- `opg_frame_writer::write_request_frame` meets its contract.
 use borrow.Author.Needs.{needs}
 use Rattle.opg_frame_writer.proofs.write_request_frame.Statement.{statement}
 use Rattle.opg_frame_writer.proofs.write_request_frame.Tie as tie

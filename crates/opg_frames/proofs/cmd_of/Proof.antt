@@ -1,4 +1,4 @@
--- `opg_frames::cmd_of` meets its contract. Assumes nothing.
+-- `opg_frames::cmd_of` meets its contract.
 use borrow.Author.Needs.{needs}
 use Rattle.opg_frames.specs.Frame.{cmdOf}
 use Rattle.opg_frames.proofs.cmd_of.Statement.{statement}

@@ -1,4 +1,4 @@
--- `opg_frames::count_of` meets its contract. Assumes nothing.
+-- `opg_frames::count_of` meets its contract.
 use native.Mathlib.Omega.{arith}
 use borrow.Author.Needs.{needs}
 use Rattle.opg_frames.specs.Frame.{countOf}

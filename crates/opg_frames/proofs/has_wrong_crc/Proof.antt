@@ -1,4 +1,4 @@
--- `opg_frames::has_wrong_crc` meets its contract. Assumes nothing.
+-- `opg_frames::has_wrong_crc` meets its contract.
 use mathlib.Core.Path.{_≡_, ap, sym}
 use mathlib.Core.Bool.{not}
 use Prim.Native.Nat.{_-_}

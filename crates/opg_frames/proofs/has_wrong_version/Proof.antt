@@ -1,4 +1,4 @@
--- `opg_frames::has_wrong_version` meets its contract. Assumes nothing.
+-- `opg_frames::has_wrong_version` meets its contract.
 use borrow.Author.Needs.{needs}
 use Rattle.opg_frames.specs.Frame.{versionOf, wrongVersion}
 use Rattle.opg_frames.proofs.has_wrong_version.Statement.{statement}

@@ -1,4 +1,4 @@
--- `opg_frames::is_acknowledge` meets its contract. Assumes nothing.
+-- `opg_frames::is_acknowledge` meets its contract.
 use borrow.Author.Needs.{needs}
 use Rattle.opg_frames.specs.Frame.{acknowledgeOf, acknowledges}
 use Rattle.opg_frames.proofs.is_acknowledge.Statement.{statement}

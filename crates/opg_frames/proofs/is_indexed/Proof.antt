@@ -1,4 +1,4 @@
--- `opg_frames::is_indexed` meets its contract. Assumes nothing.
+-- `opg_frames::is_indexed` meets its contract.
 use borrow.Author.Needs.{needs}
 use Rattle.opg_frames.specs.Frame.{idxOf, indexed}
 use Rattle.opg_frames.proofs.is_indexed.Statement.{statement}

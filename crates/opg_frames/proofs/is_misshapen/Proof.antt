@@ -1,4 +1,4 @@
--- `opg_frames::is_misshapen` meets its contract. Assumes nothing.
+-- `opg_frames::is_misshapen` meets its contract.
 use borrow.Author.Needs.{needs}
 use Rattle.buffer.proofs.Rules.{rules}
 use Rattle.opg_frames.specs.Frame.{reservedOf, misshapen}

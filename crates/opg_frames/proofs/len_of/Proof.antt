@@ -1,4 +1,4 @@
--- `opg_frames::len_of` meets its contract. Assumes nothing.
+-- `opg_frames::len_of` meets its contract.
 use borrow.Author.Needs.{needs}
 use Rattle.opg_frames.specs.Frame.{lenOf}
 use Rattle.opg_frames.proofs.len_of.Statement.{statement}

@@ -1,4 +1,4 @@
--- `opg_frames::pid_of` meets its contract. Assumes nothing.
+-- `opg_frames::pid_of` meets its contract.
 use borrow.Author.Needs.{needs}
 use Rattle.opg_frames.specs.Frame.{pidOf}
 use Rattle.opg_frames.proofs.pid_of.Statement.{statement}

@@ -1,4 +1,4 @@
--- `opg_gauge::is_pressure_read` meets its contract. Each arm by its constructor. Assumes nothing.
+-- `opg_gauge::is_pressure_read` meets its contract. Each arm by its constructor.
 use mathlib.Core.Path.{sym, ap}
 use borrow.Author.Needs.{needs}
 use Rattle.opg_gauge.specs.Judged.{isPressureRead}

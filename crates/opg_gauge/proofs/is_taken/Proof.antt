@@ -1,4 +1,4 @@
--- `opg_gauge::is_taken` meets its contract. Assumes nothing.
+-- `opg_gauge::is_taken` meets its contract.
 use mathlib.Core.Path.{sym, ap, _∙_}
 use borrow.Author.Needs.{needs}
 use Rattle.opg_gauge.specs.State.{takes}

@@ -1,4 +1,4 @@
--- `opg_replies::has_wrong_count` meets its contract. Assumes nothing.
+-- `opg_replies::has_wrong_count` meets its contract.
 use borrow.Author.Needs.{needs}
 use Rattle.opg_replies.specs.Reply.{wrongCount}
 use Rattle.opg_replies.proofs.has_wrong_count.Statement.{statement}

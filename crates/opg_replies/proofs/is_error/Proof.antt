@@ -1,4 +1,4 @@
--- `opg_replies::is_error` meets its contract. Assumes nothing.
+-- `opg_replies::is_error` meets its contract.
 use borrow.Author.Needs.{needs}
 use Rattle.opg_replies.specs.Reply.{isError}
 use Rattle.opg_replies.proofs.is_error.Statement.{statement}

@@ -1,4 +1,4 @@
--- `opg_replies::is_other_reply` meets its contract. Assumes nothing.
+-- `opg_replies::is_other_reply` meets its contract.
 use mathlib.Core.Path.{_≡_, sym, _∙_}
 use mathlib.Core.Bool.{false, not}
 use borrow.Author.Needs.{needs}

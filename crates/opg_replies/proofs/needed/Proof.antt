@@ -1,4 +1,4 @@
--- `opg_replies::needed` meets its contract. Assumes nothing.
+-- `opg_replies::needed` meets its contract.
 use Rattle.buffer.proofs.Rules.{past, stop, flag}
 use mathlib.Core.Path.{refl}
 use borrow.Author.Needs.{needs}

@@ -1,4 +1,4 @@
--- `opg_replies::read_value` meets its contract. Assumes nothing.
+-- `opg_replies::read_value` meets its contract.
 use mathlib.Core.Path.{_≡_, sym, _∙_}
 use mathlib.Core.Bool.{true}
 use borrow.Author.Needs.{needs}
@@ -6,7 +6,7 @@ use borrow.Author.Tests.{not-true, not-false}
 use Rattle.buffer.specs.First.{pick}
 use Rattle.opg_units.specs.Units.{finite}
 use Rattle.opg_units.proofs.Laws.{bits-no-nan}
-use Rattle.opg_replies.specs.Reply.{valueOf}
+use Rattle.opg_replies.specs.Reply.{replyValue}
 use Rattle.opg_replies.proofs.read_value.Statement.{statement}
 use Rattle.opg_replies.proofs.read_value.Tie as tie
 
@@ -14,7 +14,7 @@ is-finite : (c : tie.Else1) → finite (c .before .before .word .result) ≡ tru
 is-finite c = sym (c .before .is-finite .ensures) ∙ not-false _ (c .if1 .left)
 
 pub read-value-spec : {M : Type 1} → statement M
-unfolding valueOf pick
+unfolding replyValue pick
 read-value-spec =
     tie.close
     (tie.spec

@@ -1,18 +1,18 @@
--- `opg_reply_kinds::unit_of` meets its contract. Assumes nothing.
+-- `opg_reply_kinds::unit_of` meets its contract.
 use mathlib.Core.Path.{_≡_, refl, sym, ap}
 use mathlib.Core.List.{[], _∷_}
 use borrow.Author.Needs.{needs}
 use Rattle.buffer.specs.First.{pick}
 use Rattle.buffer.proofs.Rules.{past}
-use Rattle.opg_replies.specs.declared.Reading.the-variants.{Read, Refused}
-use Rattle.opg_replies.specs.Reply.{readingShown}
+use Rattle.opg_replies.specs.declared.ReadOpg.the-variants.{Read, Refused}
+use Rattle.opg_replies.specs.Reply.{readShown}
 use Rattle.opg_reply_kinds.specs.Kind.{asUnit, expected}
 use Rattle.opg_reply_kinds.proofs.Laws.{apart}
 use Rattle.opg_reply_kinds.proofs.unit_of.Statement.{statement}
 use Rattle.opg_reply_kinds.proofs.unit_of.Tie as tie
 
 pub unit-of-spec : {M : Type 1} → statement M
-unfolding asUnit expected readingShown pick
+unfolding asUnit expected readShown pick
 unit-of-spec =
     tie.close
     (tie.spec

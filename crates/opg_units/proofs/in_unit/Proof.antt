@@ -1,4 +1,4 @@
--- `opg_units::in_unit` meets its contract: each unit by its tests; a finite pressure and its products are no NaN. Assumes nothing.
+-- `opg_units::in_unit` meets its contract: each unit by its tests; a finite pressure and its products are no NaN.
 use mathlib.Core.Path.{_≡_, sym, _∙_}
 use mathlib.Core.Bool.{true}
 use borrow.Author.Needs.{needs}

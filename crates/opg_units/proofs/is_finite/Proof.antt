@@ -1,4 +1,4 @@
--- `opg_units::is_finite` meets its contract. Assumes nothing.
+-- `opg_units::is_finite` meets its contract.
 use mathlib.Core.Path.{refl}
 use Rattle.opg_units.specs.Units.{finite}
 use Rattle.opg_units.proofs.is_finite.Statement.{statement}

@@ -1,4 +1,4 @@
--- `opg_units::is_measurable` meets its contract. Assumes nothing.
+-- `opg_units::is_measurable` meets its contract.
 use mathlib.Core.Path.{_≡_, sym, _∙_}
 use mathlib.Core.Bool.{true}
 use borrow.Author.Needs.{needs}

@@ -1,4 +1,4 @@
--- `player::ask` meets its contract. Assumes nothing.
+-- `player::ask` meets its contract.
 use borrow.Author.Needs.{needs}
 use Rattle.player.proofs.ask.Statement.{statement}
 use Rattle.player.proofs.ask.Tie as tie

@@ -1,4 +1,4 @@
--- `player::ask_text` meets its contract. Assumes nothing.
+-- `player::ask_text` meets its contract.
 use native.Mathlib.Omega.{arith}
 use borrow.Author.Needs.{needs}
 use Rattle.sequence_facts.specs.Sequence as sequence

@@ -1,4 +1,4 @@
--- `player::at_start` meets its contract. Assumes nothing.
+-- `player::at_start` meets its contract.
 use borrow.Author.Needs.{needs}
 use Rattle.sequence_facts.specs.Sequence as text
 use Rattle.opg_sequence_facts.specs.Sequence as opg

@@ -1,10 +1,10 @@
--- `player::one` meets its contract: Turns has the reasoning, this file the places of the facts. Assumes nothing.
+-- `player::one` meets its contract: Turns has the reasoning, this file the places of the facts.
 use mathlib.Core.Path.{sym, _∙_}
 use native.Mathlib.Omega.{arith}
 use borrow.Author.Needs.{needs}
 use lib.ListN.{length}
 use Rattle.script.specs.Script.{Fits}
-use Rattle.player.proofs.Turns.{part-short, read, request-one, line-one, setting-one, offer-one, no-room, none-left}
+use Rattle.player.proofs.Turns.{part-short, read, request-one, line-one, setting-one, opg-bench-one, no-room, none-left}
 use Rattle.player.proofs.one.Statement.{statement}
 use Rattle.player.proofs.one.Tie as tie
 
@@ -72,14 +72,14 @@ returns-5 c =
     let m = c .before .before in
     let x = m .before .before .before .before .before .args in
     let k = read (Fits (length (x .script .now)) (x .at)) _ (m .before .before .call-at .ensures) (m .b .given .1) in
-    setting-one (x .script .now) (x .memory .now) (x .g) (x .at) (x .used) _ _ (k .1) (k .0) (omega arith) (c .tell .ensures)
+    setting-one (x .script .now) (x .memory .now) (x .g) (x .at) (x .used) _ _ (k .1) (k .0) (omega arith) (c .set-bench .ensures)
 
 returns-6 : tie.Need-returns-6
 returns-6 c =
     let m = c .before .before in
     let x = m .before .before .before .before .before .args in
     let k = read (Fits (length (x .script .now)) (x .at)) _ (m .before .before .call-at .ensures) (m .p .given .1) in
-    offer-one (x .script .now) (x .memory .now) (x .g) (x .at) (x .used) _ _ (k .1) (k .0) (omega arith) (c .offer .ensures)
+    opg-bench-one (x .script .now) (x .memory .now) (x .g) (x .at) (x .used) _ _ (k .1) (k .0) (omega arith) (c .set-opg-bench .ensures)
 
 -- no whole call
 returns-7 : tie.Need-returns-7

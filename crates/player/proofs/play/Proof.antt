@@ -1,4 +1,4 @@
--- `player::play` meets its contract: Sofar has the reasoning, this file the places of the facts. Assumes nothing.
+-- `player::play` meets its contract: Sofar has the reasoning, this file the places of the facts.
 use mathlib.Core.Path.{_∙_}
 use Prim.Native.Nat.{_-_, _<_}
 use native.Mathlib.Omega.{arith}

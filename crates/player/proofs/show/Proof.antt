@@ -1,4 +1,4 @@
--- `player::show` meets its contract. Assumes nothing.
+-- `player::show` meets its contract.
 use native.Mathlib.Omega.{arith}
 use borrow.Author.Needs.{needs}
 use Rattle.sequence_facts.specs.Sequence as sequence

@@ -1,7 +1,7 @@
--- `readings::error_text` meets its contract. Assumes nothing.
+-- `readings::error_text` meets its contract.
 use borrow.Author.Needs.{needs}
 use Rattle.buffer.specs.Text.{textOf, cut}
-use Rattle.frame_writer.specs.Error.{errorBytes}
+use Rattle.error_texts.specs.Texts.{errorBytes}
 use Rattle.readings.proofs.error_text.Statement.{statement}
 use Rattle.readings.proofs.error_text.Tie as tie
 

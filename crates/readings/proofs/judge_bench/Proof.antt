@@ -1,4 +1,4 @@
--- `readings::judge_bench` meets its contract. Assumes nothing.
+-- `readings::judge_bench` meets its contract.
 use borrow.Author.Needs.{needs}
 use mathlib.Core.Path.{refl}
 use native.Mathlib.Omega.{arith}

@@ -1,4 +1,4 @@
--- `readings::measure_text` meets its contract. Assumes nothing.
+-- `readings::measure_text` meets its contract.
 use borrow.Author.Needs.{needs}
 use Rattle.buffer.specs.Text.{textOf, cut}
 use Rattle.readings.specs.Measure.{measureText}

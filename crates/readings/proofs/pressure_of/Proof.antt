@@ -1,4 +1,4 @@
--- `readings::pressure_of` meets its contract. Assumes nothing.
+-- `readings::pressure_of` meets its contract.
 use mathlib.Core.Path.{_≡_, refl}
 use mathlib.Core.List.{[], _∷_}
 use Prim.Native.Nat.{ℕ}

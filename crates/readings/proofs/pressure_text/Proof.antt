@@ -1,4 +1,4 @@
--- `readings::pressure_text` meets its contract. Assumes nothing.
+-- `readings::pressure_text` meets its contract.
 use mathlib.Core.Path.{refl}
 use borrow.Author.Needs.{needs}
 use Rattle.buffer.specs.Text.{textOf, cut}
@@ -14,14 +14,14 @@ pressure-text-spec =
     (λ c. search needs)
     (λ c κs. search needs)
     (λ c. search needs)
-    (λ c κs. search needs)
-    (λ c κs. search needs)
     (λ c. search needs)
     (λ c κs. search needs)
+    (λ c. search needs)
+    (λ c. search needs)
     (λ c κs. search needs)
     (λ c. search needs)
     (λ c κs. search needs)
     (λ c. rw (c .before .before .p .given .1) (c .written .ensures))
-    (λ c. rw (c .before .before .enum-told .given .1, c .push2 .ensures, c .before .push .ensures) refl)
-    (λ c. rw (c .before .before .enum-told2 .given .1, c .push4 .ensures, c .before .push3 .ensures) refl)
+    (λ c. rw (c .before .before .enum-told .given .1, c .add .ensures) refl)
+    (λ c. rw (c .before .before .enum-told2 .given .1, c .add2 .ensures) refl)
     (λ c. rw (c .before .enum-told3 .given .1) (c .error-text .ensures)))

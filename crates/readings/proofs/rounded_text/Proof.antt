@@ -1,4 +1,4 @@
--- `readings::rounded_text` meets its contract. Assumes nothing.
+-- `readings::rounded_text` meets its contract.
 use mathlib.Core.Path.{_≡_}
 use mathlib.Core.Bool.{true, false}
 use Prim.Native.Nat.{_+_, _/_}

@@ -1,4 +1,4 @@
--- `readings::six_of` meets its contract. Assumes nothing.
+-- `readings::six_of` meets its contract.
 use borrow.Author.Needs.{needs}
 use Rattle.buffer.specs.Text.{textOf, cut}
 use Rattle.readings.specs.Measure.{sixOf}

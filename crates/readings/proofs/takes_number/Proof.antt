@@ -1,4 +1,4 @@
--- `readings::takes_number` meets its contract. Assumes nothing.
+-- `readings::takes_number` meets its contract.
 use borrow.Author.Needs.{needs}
 use borrow.Author.Tests.{eq-eqb, ne-eqb}
 use Rattle.readings.specs.Bench.{takes}

@@ -1,4 +1,4 @@
--- `readings::temperature_at` meets its contract. Assumes nothing.
+-- `readings::temperature_at` meets its contract.
 use mathlib.Core.Path.{sym, ap}
 use Prim.Native.Nat.{ℕ}
 use Rattle.buffer.specs.First.{pick}

@@ -1,4 +1,4 @@
--- `readings::temperature_text` meets its contract. Assumes nothing.
+-- `readings::temperature_text` meets its contract.
 use borrow.Author.Needs.{needs}
 use Rattle.readings.specs.Reading.{temperatureText}
 use Rattle.readings.proofs.temperature_text.Statement.{statement}

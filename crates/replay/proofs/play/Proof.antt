@@ -1,4 +1,4 @@
--- `replay::play` is safe and ends. The measure is the number of turns that are left. Assumes nothing.
+-- `replay::play` is safe and ends: both buffers keep their lengths, and each turn is counted.
 use mathlib.Core.Path.{_≡_}
 use native.Mathlib.Omega.{arith}
 use lib.ListN.{length}
@@ -7,10 +7,10 @@ use Rattle.replay.proofs.play.Statement.{statement}
 use Rattle.replay.proofs.play.Tie as tie
 
 abbrev Inv-loop : tie.InvT-loop
-Inv-loop line₀ out₀ state₀ turns₀ line out state turns = (length line ≡ length line₀) × (length out ≡ length out₀)
+Inv-loop input₀ line₀ world₀ c₀ turns₀ input line world c turns = (length input ≡ length input₀) × (length line ≡ length line₀)
 
 abbrev μ-loop : tie.MeasureT-loop
-μ-loop line₀ out₀ state₀ turns₀ line out state turns = turns
+μ-loop input₀ line₀ world₀ c₀ turns₀ input line world c turns = turns
 
 pub play-spec : {M : Type 1} → statement M
 play-spec =

@@ -1,4 +1,4 @@
--- `replies_v1::has_letter` meets its contract. Assumes nothing.
+-- `replies_v1::has_letter` meets its contract.
 use mathlib.Core.Path.{sym, ap}
 use native.Mathlib.Omega.{arith}
 use borrow.Author.Needs.{needs}

@@ -1,4 +1,4 @@
--- `replies_v1::is_error` meets its contract. Assumes nothing.
+-- `replies_v1::is_error` meets its contract.
 use borrow.Author.Needs.{needs}
 use Rattle.replies_v1.specs.ReplyV1.{errorAt}
 use Rattle.replies_v1.proofs.is_error.Statement.{statement}

@@ -1,11 +1,11 @@
--- `replies_v1::read_factor` meets its contract. Assumes nothing.
+-- `replies_v1::read_factor` meets its contract.
 use mathlib.Core.Path.{_≡_, sym, _∙_}
 use mathlib.Core.Bool.{true}
 use borrow.Author.Tests.{not-true, not-false}
 use borrow.Author.Needs.{needs}
 use Rattle.buffer.specs.First.{pick}
 use Rattle.buffer.specs.Byte.{numeral}
-use Rattle.buffer.proofs.Laws.{within-in, within-below, within-above}
+use Rattle.settings.proofs.Laws.{factor-small}
 use Rattle.requests.specs.AskV1.{sixDigits}
 use Rattle.replies_v1.specs.ReplyV1.{factorV1}
 use Rattle.requests.proofs.Laws.{six-whole}
@@ -26,9 +26,7 @@ read-factor-spec =
     (λ c κs. search needs)
     (λ c. rw (sym (c .before .has-six-digits .ensures) ∙ not-true _ (c .if1 .taken)))
     (λ c κs. search needs)
-    (λ c. search needs)
-    (λ c. rw (six (c .before .before), spelled (c .before), within-below 20 800 _ (c .if2 .taken)))
-    (λ c. search needs)
-    (λ c. rw (six (c .before .before .before), spelled (c .before .before), within-above 20 800 _ (c .if3 .taken)))
-    (λ c. search needs)
-    (λ c. rw (six (c .before .before .before), spelled (c .before .before), within-in 20 800 _ (c .before .if2 .left) (c .if3 .left))))
+    (λ c κs. search needs)
+    (λ c. rw (six (c .before .before .before), spelled (c .before .before), sym (c .before .is-factor .ensures) ∙ not-true _ (c .if2 .taken)))
+    (λ c. record { fits = factor-small _ (sym (c .before .is-factor .ensures) ∙ not-false _ (c .if2 .left)) })
+    (λ c. rw (six (c .before .before .before), spelled (c .before .before), sym (c .before .is-factor .ensures) ∙ not-false _ (c .if2 .left))))

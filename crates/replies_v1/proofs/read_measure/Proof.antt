@@ -1,4 +1,4 @@
--- `replies_v1::read_measure` meets its contract. Assumes nothing.
+-- `replies_v1::read_measure` meets its contract.
 use mathlib.Core.Path.{sym, _∙_}
 use borrow.Author.Needs.{needs}
 use Rattle.buffer.specs.First.{pick}

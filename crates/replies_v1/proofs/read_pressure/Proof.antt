@@ -1,4 +1,4 @@
--- `replies_v1::read_pressure` meets its contract. Assumes nothing.
+-- `replies_v1::read_pressure` meets its contract.
 use mathlib.Core.Path.{_≡_, sym, _∙_}
 use mathlib.Core.Bool.{true}
 use native.Mathlib.Omega.{arith}

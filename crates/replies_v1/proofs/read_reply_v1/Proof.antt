@@ -1,4 +1,4 @@
--- `replies_v1::read_reply_v1` meets its contract. Assumes nothing.
+-- `replies_v1::read_reply_v1` meets its contract.
 use mathlib.Core.Path.{_≡_, refl, sym, _∙_}
 use mathlib.Core.Bool.{true}
 use borrow.Author.Tests.{not-true, not-false}
@@ -88,6 +88,6 @@ read-reply-v1-spec =
     (λ c. search needs)
     (λ c. search needs)
     returns-7
-    (λ c. past8 (c .before .before) _ _ (rw (c .before .data-from .ensures) at (c .read-value .ensures)))
+    (λ c. past8 (c .before .before) _ _ (rw (c .before .data-v1 .ensures) at (c .read-value .ensures)))
     returns-9
     returns-10)

@@ -1,4 +1,4 @@
--- `replies_v1::read_unit` meets its contract. Assumes nothing.
+-- `replies_v1::read_unit` meets its contract.
 use mathlib.Core.Path.{_≡_, sym, _∙_}
 use mathlib.Core.Bool.{true}
 use borrow.Author.Tests.{not-true, not-false}

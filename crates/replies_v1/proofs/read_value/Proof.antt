@@ -1,4 +1,4 @@
--- `replies_v1::read_value` meets its contract. Assumes nothing.
+-- `replies_v1::read_value` meets its contract.
 use borrow.Author.Needs.{needs}
 use Rattle.replies_v1.specs.ReplyV1.{valueV1}
 use Rattle.replies_v1.proofs.read_value.Statement.{statement}

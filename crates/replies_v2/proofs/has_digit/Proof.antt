@@ -1,4 +1,4 @@
--- `replies_v2::has_digit` meets its contract. Assumes nothing.
+-- `replies_v2::has_digit` meets its contract.
 use native.Mathlib.Omega.{arith}
 use borrow.Author.Needs.{needs}
 use lib.ListN.{List·getD-eq-default}

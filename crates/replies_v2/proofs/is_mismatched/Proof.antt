@@ -1,4 +1,4 @@
--- `replies_v2::is_mismatched` meets its contract. Assumes nothing.
+-- `replies_v2::is_mismatched` meets its contract.
 use mathlib.Core.Path.{sym, _∙_}
 use borrow.Author.Needs.{needs}
 use Rattle.replies_v2.specs.ReplyV2.{mismatched}

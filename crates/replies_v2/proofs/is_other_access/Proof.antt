@@ -1,4 +1,4 @@
--- `replies_v2::is_other_access` meets its contract. Assumes nothing.
+-- `replies_v2::is_other_access` meets its contract.
 use mathlib.Core.Path.{_≡_}
 use mathlib.Core.Bool.{false, not}
 use Prim.Native.Nat.{ℕ, _+_, _≤_}

@@ -1,4 +1,4 @@
--- `replies_v2::is_other_command` meets its contract. Assumes nothing.
+-- `replies_v2::is_other_command` meets its contract.
 use borrow.Author.Tests.{eq-eqb, ne-eqb}
 use borrow.Author.Needs.{needs}
 use Rattle.replies_v2.specs.ReplyV2.{otherCommand}

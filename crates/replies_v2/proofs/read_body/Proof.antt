@@ -1,4 +1,4 @@
--- `replies_v2::read_body` meets its contract. Assumes nothing.
+-- `replies_v2::read_body` meets its contract.
 use mathlib.Core.Path.{refl, _∙_}
 use borrow.Author.Tests.{eq-eqb, ne-eqb}
 use borrow.Author.Needs.{needs}

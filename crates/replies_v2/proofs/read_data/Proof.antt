@@ -1,4 +1,4 @@
--- `replies_v2::read_data` meets its contract. Assumes nothing.
+-- `replies_v2::read_data` meets its contract.
 use mathlib.Core.Path.{_≡_, _∙_}
 use mathlib.Core.List.{List, [], _∷_}
 use Prim.Native.Nat.{ℕ}

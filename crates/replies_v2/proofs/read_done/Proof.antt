@@ -1,4 +1,4 @@
--- `replies_v2::read_done` meets its contract. Assumes nothing.
+-- `replies_v2::read_done` meets its contract.
 use mathlib.Core.Path.{refl}
 use Rattle.buffer.proofs.Rules.{past, stop, not-eqb, not-neqb}
 use Rattle.replies_v2.specs.ReplyV2.{doneReply}

@@ -1,4 +1,4 @@
--- `replies_v2::read_error` meets its contract. Assumes nothing.
+-- `replies_v2::read_error` meets its contract.
 use mathlib.Core.Path.{refl}
 use borrow.Author.Needs.{needs}
 use Rattle.buffer.proofs.Rules.{past, stop, flag}

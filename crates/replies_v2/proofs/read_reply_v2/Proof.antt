@@ -1,4 +1,4 @@
--- `replies_v2::read_reply_v2` meets its contract. Assumes nothing.
+-- `replies_v2::read_reply_v2` meets its contract.
 use mathlib.Core.Path.{refl, sym, _∙_}
 use borrow.Author.Tests.{not-false}
 use borrow.Author.Needs.{needs}
@@ -32,4 +32,4 @@ read-reply-v2-spec =
     (λ c. refuses _ _ _ _ _ (c .plain2 .ensures) (at-frame _ _ _ _ (sym (c .before .before .before .before .before .before .has-digit .ensures) ∙ not-false _ (c .before .before .before .before .before .if1 .left)) (sym (c .before .before .before .before .read-frame .ensures) ∙ c .before .before .k .given .1)))
     (λ c. refuses _ _ _ _ 2 (c .plain3 .ensures) (at-frame _ _ _ _ (sym (c .before .before .before .before .before .has-digit .ensures) ∙ not-false _ (c .before .before .before .before .if1 .left)) (sym (c .before .before .before .read-frame .ensures) ∙ c .before .enum-told .given .1)))
     (λ c. refuses _ _ _ _ 6 (c .plain5 .ensures) (past _ _ _ _ (not-eqb _ _ (c .before .if2 .left)) refl ∙ at-frame _ _ _ _ (sym (c .before .before .before .before .before .before .before .before .has-digit .ensures) ∙ not-false _ (c .before .before .before .before .before .before .before .if1 .left)) (sym (c .before .before .before .before .before .before .read-frame .ensures) ∙ c .before .before .before .before .head .given .1)))
-    (λ c. from-body _ _ _ _ _ (rw (c .before .data-from .ensures) at (c .read-body .ensures)) (past _ _ _ _ (not-eqb _ _ (c .before .before .if3 .left)) refl ∙ at-frame _ _ _ _ (sym (c .before .before .before .before .before .before .before .before .before .has-digit .ensures) ∙ not-false _ (c .before .before .before .before .before .before .before .before .if1 .left)) (sym (c .before .before .before .before .before .before .before .read-frame .ensures) ∙ c .before .before .before .before .before .head2 .given .1))))
+    (λ c. from-body _ _ _ _ _ (rw (c .before .data-v2 .ensures) at (c .read-body .ensures)) (past _ _ _ _ (not-eqb _ _ (c .before .before .if3 .left)) refl ∙ at-frame _ _ _ _ (sym (c .before .before .before .before .before .before .before .before .before .has-digit .ensures) ∙ not-false _ (c .before .before .before .before .before .before .before .before .if1 .left)) (sym (c .before .before .before .before .before .before .before .read-frame .ensures) ∙ c .before .before .before .before .before .head2 .given .1))))

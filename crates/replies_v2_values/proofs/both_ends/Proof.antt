@@ -1,4 +1,4 @@
--- `replies_v2_values::both_ends` meets its contract. Assumes nothing.
+-- `replies_v2_values::both_ends` meets its contract.
 use mathlib.Core.Path.{_≡_, refl, ap, _∙_}
 use mathlib.Core.List.{[], _∷_}
 use borrow.Author.Needs.{needs}
@@ -6,7 +6,7 @@ use types.Run.{OneOf, miss}
 use denote.Enum.Declared.{tagOf}
 use Rattle.forms.specs.Forms.{betweenOf, transitionOf}
 use Rattle.forms.specs.declared.Limited.{Limited}
-use Rattle.forms.specs.declared.Limited.the-variants.{Fine, Bad}
+use Rattle.forms.specs.declared.Limited.the-variants.{Fine, Refused}
 use Rattle.forms.specs.declared.Ends.the-variants.{Two}
 use Rattle.forms.proofs.Limited.{the-type}
 use Rattle.replies_v2_values.specs.Value.{heldReply, bothEnds}
@@ -17,14 +17,14 @@ use Rattle.replies_v2_values.proofs.both_ends.Tie as tie
 low-bad : (low high : Limited) → OneOf (1 ∷ []) (tagOf the-type low) → heldReply (transitionOf (Two low high)) ≡ bothEnds low high
 unfolding heldReply transitionOf betweenOf bothEnds
 low-bad (Fine a) high h = absurd (miss (1 ∷ []) 0 tt h)
-low-bad (Bad j) (Fine b) h = refl
-low-bad (Bad j) (Bad k) h = refl
+low-bad (Refused j) (Fine b) h = refl
+low-bad (Refused j) (Refused k) h = refl
 
 high-bad : (low high : Limited) → OneOf (1 ∷ []) (tagOf the-type high) → heldReply (transitionOf (Two low high)) ≡ bothEnds low high
 unfolding heldReply transitionOf betweenOf bothEnds
 high-bad low (Fine b) h = absurd (miss (1 ∷ []) 0 tt h)
-high-bad (Fine a) (Bad k) h = refl
-high-bad (Bad j) (Bad k) h = refl
+high-bad (Fine a) (Refused k) h = refl
+high-bad (Refused j) (Refused k) h = refl
 
 pub both-ends-spec : {M : Type 1} → statement M
 unfolding bothEnds

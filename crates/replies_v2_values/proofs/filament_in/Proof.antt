@@ -1,4 +1,4 @@
--- `replies_v2_values::filament_in` meets its contract. Assumes nothing.
+-- `replies_v2_values::filament_in` meets its contract.
 use mathlib.Core.Path.{refl}
 use borrow.Author.Tests.{lt-ltb, le-ltb}
 use borrow.Author.Needs.{needs}

@@ -1,4 +1,4 @@
--- `replies_v2_values::held_in` meets its contract. Assumes nothing.
+-- `replies_v2_values::held_in` meets its contract.
 use borrow.Author.Needs.{needs}
 use Rattle.replies_v2_values.specs.Value.{heldReply}
 use Rattle.replies_v2_values.proofs.held_in.Statement.{statement}

@@ -1,4 +1,4 @@
--- `replies_v2_values::measured_in` meets its contract. Assumes nothing.
+-- `replies_v2_values::measured_in` meets its contract.
 use mathlib.Core.Path.{_≡_, refl}
 use mathlib.Core.List.{[], _∷_}
 use borrow.Author.Needs.{needs}

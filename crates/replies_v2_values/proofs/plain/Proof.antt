@@ -1,4 +1,4 @@
--- `replies_v2_values::plain` meets its contract. Assumes nothing.
+-- `replies_v2_values::plain` meets its contract.
 use mathlib.Core.Path.{refl}
 use Rattle.sources.specs.Source.{listOf, Counted}
 use Rattle.replies_v2_values.proofs.plain.Statement.{statement}

@@ -1,4 +1,4 @@
--- `replies_v2_values::read_setting` meets its contract. Assumes nothing.
+-- `replies_v2_values::read_setting` meets its contract.
 use mathlib.Core.Path.{_≡_, ap, _∙_}
 use mathlib.Core.List.{List, [], _∷_}
 use Prim.Native.Nat.{ℕ}

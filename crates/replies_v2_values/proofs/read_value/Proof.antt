@@ -1,4 +1,4 @@
--- `replies_v2_values::read_value` meets its contract. Assumes nothing.
+-- `replies_v2_values::read_value` meets its contract.
 use mathlib.Core.Path.{ap, _∙_}
 use borrow.Author.Needs.{needs}
 use Rattle.replies_v2_values.specs.Value.{temperatureReply, filamentReply, statusReply, valueReply, valueList}

@@ -1,4 +1,4 @@
--- `replies_v2_values::status_in` meets its contract. Assumes nothing.
+-- `replies_v2_values::status_in` meets its contract.
 use borrow.Author.Needs.{needs}
 use Rattle.replies_v2_values.specs.Value.{statusReply}
 use Rattle.replies_v2_values.proofs.status_in.Statement.{statement}

@@ -1,4 +1,4 @@
--- `replies_v2_values::transition_in` meets its contract. Assumes nothing.
+-- `replies_v2_values::transition_in` meets its contract.
 use mathlib.Core.Path.{_≡_, refl, ap, _∙_}
 use mathlib.Core.List.{[], _∷_}
 use borrow.Author.Needs.{needs}

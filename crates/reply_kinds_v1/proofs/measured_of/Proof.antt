@@ -1,4 +1,4 @@
--- `reply_kinds_v1::measured_of` meets its contract. Assumes nothing.
+-- `reply_kinds_v1::measured_of` meets its contract.
 use mathlib.Core.Path.{_≡_, refl, sym, ap}
 use mathlib.Core.List.{[], _∷_}
 use borrow.Author.Needs.{needs}

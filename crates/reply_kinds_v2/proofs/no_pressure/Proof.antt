@@ -1,4 +1,4 @@
--- `reply_kinds_v2::no_pressure` meets its contract. Assumes nothing.
+-- `reply_kinds_v2::no_pressure` meets its contract.
 use mathlib.Core.Path.{_≡_, refl, sym, ap}
 use mathlib.Core.List.{[], _∷_}
 use borrow.Author.Needs.{needs}

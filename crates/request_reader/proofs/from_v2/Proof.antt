@@ -1,4 +1,4 @@
--- `request_reader::from_v2` meets its contract. Assumes nothing.
+-- `request_reader::from_v2` meets its contract.
 use borrow.Author.Needs.{needs}
 use Rattle.request_reader.specs.Decoded.{fromV2}
 use Rattle.request_reader.proofs.from_v2.Statement.{statement}

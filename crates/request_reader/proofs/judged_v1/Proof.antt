@@ -1,11 +1,11 @@
--- `request_reader::judged_v1` meets its contract. Assumes nothing.
-use mathlib.Core.Path.{_≡_, refl}
+-- `request_reader::judged_v1` meets its contract.
+use mathlib.Core.Path.{_≡_, refl, sym, _∙_}
 use mathlib.Core.List.{[], _∷_}
 use Prim.Native.Nat.{ℕ}
 use borrow.Author.Needs.{needs}
+use borrow.Author.Tests.{not-true, not-false}
 use types.Run.{OneOf, miss}
 use denote.Enum.Declared.{tagOf}
-use Rattle.buffer.proofs.Laws.{within-in, within-below, within-above}
 use Rattle.buffer.proofs.Rules.{rules}
 use Rattle.requests.specs.declared.RequestV1.{RequestV1}
 use Rattle.requests.specs.declared.RequestV1.the-variants.{Measure, ReadFactor, Unlock, SetFactor, ReadUnit, SetUnit}
@@ -28,4 +28,10 @@ other a (SetUnit u) h = refl
 pub judged-v1-spec : {M : Type 1} → statement M
 unfolding judgedV1
 judged-v1-spec =
-    tie.close (tie.spec (λ c. search needs) (λ c. other (c .before .args .address) (c .before .args .request) (c .match .keys2)) (λ c. search needs) (λ c. rw (c .before .before .request .given .1, within-below 20 800 _ (c .if1 .taken)) (search rules)) (λ c. search needs) (λ c. rw (c .before .before .before .request .given .1, within-above 20 800 _ (c .if2 .taken)) (search rules)) (λ c. rw (c .before .before .before .request .given .1, within-in 20 800 _ (c .before .if1 .left) (c .if2 .left)) (search rules)))
+    tie.close
+    (tie.spec
+    (λ c. search needs)
+    (λ c. other (c .before .args .address) (c .before .args .request) (c .match .keys2))
+    (λ c κs. search needs)
+    (λ c. rw (c .before .before .before .request .given .1, sym (c .before .is-factor .ensures) ∙ not-true _ (c .if1 .taken)) (search rules))
+    (λ c. rw (c .before .before .before .request .given .1, sym (c .before .is-factor .ensures) ∙ not-false _ (c .if1 .left)) (search rules)))

@@ -1,4 +1,4 @@
--- `request_reader::plain` meets its contract. Assumes nothing.
+-- `request_reader::plain` meets its contract.
 use mathlib.Core.Path.{refl}
 use borrow.Author.Needs.{needs}
 use Rattle.sources.specs.Source.{listOf, Counted}

@@ -1,4 +1,4 @@
--- `request_texts::access_code` meets its contract. Assumes nothing.
+-- `request_texts::access_code` meets its contract.
 use borrow.Author.Needs.{needs}
 use Rattle.request_texts.specs.RequestText.{accessOf}
 use Rattle.request_texts.proofs.access_code.Statement.{statement}

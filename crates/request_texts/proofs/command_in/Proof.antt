@@ -1,4 +1,4 @@
--- `request_texts::command_in` meets its contract. Assumes nothing.
+-- `request_texts::command_in` meets its contract.
 use borrow.Author.Needs.{needs}
 use Rattle.request_texts.specs.RequestText.{commandIn}
 use Rattle.request_texts.proofs.command_in.Statement.{statement}

@@ -1,4 +1,4 @@
--- `request_texts::data_v1` meets its contract. Assumes nothing.
+-- `request_texts::data_v1` meets its contract.
 use borrow.Author.Needs.{needs}
 use Rattle.buffer.specs.Text.{textOf, cut}
 use Rattle.request_texts.specs.RequestText.{dataV1}
@@ -26,4 +26,4 @@ data-v1-spec =
     (λ c. rw (c .before .enum-told3 .given .1) (c .push2 .ensures))
     (λ c. rw (c .before .before .request .given .1) (c .six-digits .ensures))
     (λ c. rw (c .enum-told4 .given .1))
-    (λ c. rw (c .before .before .before .request2 .given .1, ← (c .before .unit-code .ensures)) (c .six-digits2 .ensures)))
+    (λ c. rw (c .before .before .before .request2 .given .1, ← (c .before .unit-number .ensures)) (c .six-digits2 .ensures)))

@@ -1,4 +1,4 @@
--- `request_texts::data_v2` meets its contract. Assumes nothing.
+-- `request_texts::data_v2` meets its contract.
 use borrow.Author.Needs.{needs}
 use Rattle.buffer.specs.Text.{textOf}
 use Rattle.request_texts.specs.RequestText.{dataV2}

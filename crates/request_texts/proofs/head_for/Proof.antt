@@ -1,4 +1,4 @@
--- `request_texts::head_for` meets its contract. Assumes nothing.
+-- `request_texts::head_for` meets its contract.
 use borrow.Author.Needs.{needs}
 use Rattle.request_texts.specs.RequestText.{headFor}
 use Rattle.request_texts.proofs.head_for.Statement.{statement}

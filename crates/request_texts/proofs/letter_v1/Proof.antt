@@ -1,4 +1,4 @@
--- `request_texts::letter_v1` meets its contract. Assumes nothing.
+-- `request_texts::letter_v1` meets its contract.
 use borrow.Author.Needs.{needs}
 use Rattle.request_texts.specs.RequestText.{letterV1}
 use Rattle.request_texts.proofs.letter_v1.Statement.{statement}

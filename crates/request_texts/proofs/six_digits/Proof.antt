@@ -1,4 +1,4 @@
--- `request_texts::six_digits` meets its contract. Assumes nothing.
+-- `request_texts::six_digits` meets its contract.
 use borrow.Author.Needs.{needs}
 use Rattle.buffer.specs.Text.{textOf, cut}
 use Rattle.request_texts.proofs.six_digits.Statement.{statement}

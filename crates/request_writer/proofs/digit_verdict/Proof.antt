@@ -1,4 +1,4 @@
--- `request_writer::digit_verdict` meets its contract. Assumes nothing.
+-- `request_writer::digit_verdict` meets its contract.
 use borrow.Author.Needs.{needs}
 use Rattle.request_writer.specs.Typed.{judgedDigit}
 use Rattle.request_writer.proofs.digit_verdict.Statement.{statement}

@@ -1,4 +1,4 @@
--- `request_writer::ends_in` meets its contract. Assumes nothing.
+-- `request_writer::ends_in` meets its contract.
 use borrow.Author.Needs.{needs}
 use Rattle.request_writer.specs.Typed.{endsIn}
 use Rattle.request_writer.proofs.ends_in.Statement.{statement}

@@ -1,10 +1,10 @@
--- `request_writer::formed_v1` meets its contract. Assumes nothing.
-use mathlib.Core.Path.{_≡_, refl}
+-- `request_writer::formed_v1` meets its contract.
+use mathlib.Core.Path.{_≡_, refl, sym, _∙_}
 use mathlib.Core.List.{[], _∷_}
 use borrow.Author.Needs.{needs}
+use borrow.Author.Tests.{not-true, not-false}
 use types.Run.{OneOf, miss}
 use denote.Enum.Declared.{tagOf}
-use Rattle.buffer.proofs.Laws.{within-in, within-below, within-above}
 use Rattle.buffer.proofs.Rules.{rules}
 use Rattle.request_writer.specs.Typed.{formedV1}
 use Rattle.requests.specs.declared.RequestV1.{RequestV1}
@@ -27,4 +27,10 @@ pub formed-v1-spec : {M : Type 1} → statement M
 unfolding formedV1
 formed-v1-spec =
     tie.close
-    (tie.spec (λ c. search needs) (λ c. other (c .before .args .request) (c .match .keys2)) (λ c. rw (c .before .before .request .given .1) (search rules)) (λ c. search needs) (λ c. rw (c .before .before .before .request .given .1, within-below 20 800 _ (c .if2 .taken)) (search rules)) (λ c. search needs) (λ c. rw (c .before .before .before .before .request .given .1, within-above 20 800 _ (c .if3 .taken)) (search rules)) (λ c. rw (c .before .before .before .before .request .given .1, within-in 20 800 _ (c .before .if2 .left) (c .if3 .left)) (search rules)))
+    (tie.spec
+    (λ c. search needs)
+    (λ c. other (c .before .args .request) (c .match .keys2))
+    (λ c. rw (c .before .before .request .given .1) (search rules))
+    (λ c κs. search needs)
+    (λ c. rw (c .before .before .before .before .request .given .1, sym (c .before .is-factor .ensures) ∙ not-true _ (c .if2 .taken)) (search rules))
+    (λ c. rw (c .before .before .before .before .request .given .1, sym (c .before .is-factor .ensures) ∙ not-false _ (c .if2 .left)) (search rules)))

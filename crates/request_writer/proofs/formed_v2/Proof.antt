@@ -1,4 +1,4 @@
--- `request_writer::formed_v2` meets its contract. Assumes nothing.
+-- `request_writer::formed_v2` meets its contract.
 use mathlib.Core.Path.{refl, sym, _∙_}
 use borrow.Author.Needs.{needs}
 use Rattle.buffer.proofs.Rules.{past, stop, flag}

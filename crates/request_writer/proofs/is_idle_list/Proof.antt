@@ -1,4 +1,4 @@
--- `request_writer::is_idle_list` meets its contract. Assumes nothing.
+-- `request_writer::is_idle_list` meets its contract.
 use borrow.Author.Tests.{not-false}
 use borrow.Author.Needs.{needs}
 use Rattle.request_writer.proofs.is_idle_list.Statement.{statement}

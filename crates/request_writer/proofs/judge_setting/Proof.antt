@@ -1,4 +1,4 @@
--- `request_writer::judge_setting` meets its contract. Assumes nothing.
+-- `request_writer::judge_setting` meets its contract.
 use borrow.Author.Needs.{needs}
 use Rattle.request_writer.specs.Typed.{typedVerdict}
 use Rattle.request_writer.proofs.judge_setting.Statement.{statement}

@@ -1,4 +1,4 @@
--- `request_writer::limited_number` meets its contract. Assumes nothing.
+-- `request_writer::limited_number` meets its contract.
 use borrow.Author.Needs.{needs}
 use Rattle.request_writer.specs.Typed.{limitedNumber}
 use Rattle.request_writer.proofs.limited_number.Statement.{statement}

@@ -1,4 +1,4 @@
--- `request_writer::send_v2` meets its contract. Assumes nothing.
+-- `request_writer::send_v2` meets its contract.
 use mathlib.Core.Path.{refl}
 use native.Mathlib.Omega.{arith}
 use borrow.Author.Needs.{needs}

@@ -1,4 +1,4 @@
--- `request_writer::typed_address` meets its contract. Assumes nothing.
+-- `request_writer::typed_address` meets its contract.
 use mathlib.Core.Path.{refl}
 use borrow.Author.Needs.{needs}
 use Rattle.buffer.proofs.Rules.{past, stop, unflag}

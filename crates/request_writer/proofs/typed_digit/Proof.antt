@@ -1,4 +1,4 @@
--- `request_writer::typed_digit` meets its contract. Assumes nothing.
+-- `request_writer::typed_digit` meets its contract.
 use borrow.Author.Needs.{needs}
 use Rattle.buffer.proofs.Rules.{rules}
 use Rattle.request_writer.specs.Typed.{typedDigit}

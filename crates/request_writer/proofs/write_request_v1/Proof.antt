@@ -1,12 +1,12 @@
--- `request_writer::write_request_v1` meets its contract. Assumes nothing.
+-- `request_writer::write_request_v1` meets its contract.
 use mathlib.Core.Path.{_≡_, refl, sym, _∙_}
 use native.Mathlib.Omega.{arith}
 use borrow.Author.Tests.{not-true, not-false}
 use borrow.Author.Needs.{needs}
 use Rattle.buffer.proofs.Laws.{refuses}
 use Rattle.frame_writer.proofs.Laws.{sent-v1}
-use Rattle.frames_facts.specs.Accepted.{sendable-exactly-v1}
-use Rattle.printed_facts.specs.Sendable.{data-v1-le, request-sendable-v1}
+use Rattle.frames_facts.proofs.Accepted.{sendable-exactly-v1}
+use Rattle.printed_facts.proofs.Sendable.{data-v1-le, request-sendable-v1}
 use Rattle.request_writer.specs.Typed.{formedV1}
 use Rattle.request_writer.proofs.Laws.{no-room-v1, outside-v1, refused-v1, sent-is-v1}
 use Rattle.request_writer.proofs.write_request_v1.Statement.{statement}

@@ -1,4 +1,4 @@
--- `request_writer::write_request_v2` meets its contract. Assumes nothing.
+-- `request_writer::write_request_v2` meets its contract.
 use mathlib.Core.Path.{_≡_, sym, _∙_}
 use native.Mathlib.Omega.{arith}
 use borrow.Author.Tests.{not-true, not-false}

@@ -1,4 +1,4 @@
--- `requests::bare` meets its contract. Assumes nothing.
+-- `requests::bare` meets its contract.
 use Rattle.buffer.proofs.Rules.{rules}
 use Rattle.requests.specs.AskV1.{bareOf}
 use Rattle.requests.proofs.bare.Statement.{statement}

@@ -1,4 +1,4 @@
--- `requests::can_restore` meets its contract. Assumes nothing.
+-- `requests::can_restore` meets its contract.
 use borrow.Author.Needs.{needs}
 use Rattle.requests.specs.Command.{canRestore}
 use Rattle.requests.proofs.can_restore.Statement.{statement}

@@ -1,4 +1,4 @@
--- `requests::can_write` meets its contract. Assumes nothing.
+-- `requests::can_write` meets its contract.
 use borrow.Author.Needs.{needs}
 use Rattle.requests.specs.Command.{canWrite}
 use Rattle.requests.proofs.can_write.Statement.{statement}

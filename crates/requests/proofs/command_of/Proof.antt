@@ -1,4 +1,4 @@
--- `requests::command_of` meets its contract. Assumes nothing.
+-- `requests::command_of` meets its contract.
 use mathlib.Core.Path.{_≡_, _∙_}
 use borrow.Author.Needs.{needs}
 use Rattle.buffer.specs.First.{pick}

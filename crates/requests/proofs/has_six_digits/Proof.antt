@@ -1,4 +1,4 @@
--- `requests::has_six_digits` meets its contract. Assumes nothing.
+-- `requests::has_six_digits` meets its contract.
 use borrow.Author.Needs.{needs}
 use borrow.Author.Tests.{eq-eqb, ne-eqb}
 use Rattle.requests.specs.AskV1.{sixDigits}

@@ -1,4 +1,4 @@
--- `requests::is_access` meets its contract. Assumes nothing.
+-- `requests::is_access` meets its contract.
 use Rattle.buffer.proofs.Rules.{tests}
 use Rattle.requests.specs.Command.{isAccess}
 use Rattle.requests.proofs.is_access.Statement.{statement}

@@ -1,4 +1,4 @@
--- `requests::key_bytes` meets its contract. Assumes nothing.
+-- `requests::key_bytes` meets its contract.
 use borrow.Author.Needs.{needs}
 use Rattle.buffer.specs.Quoted.{bytes}
 use Rattle.requests.specs.Command.{commandText}

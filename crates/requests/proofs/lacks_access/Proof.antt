@@ -1,4 +1,4 @@
--- `requests::lacks_access` meets its contract. Assumes nothing.
+-- `requests::lacks_access` meets its contract.
 use mathlib.Core.Path.{ap}
 use mathlib.Core.Bool.{not}
 use borrow.Author.Needs.{needs}

@@ -1,4 +1,4 @@
--- `requests::plain` meets its contract. Assumes nothing.
+-- `requests::plain` meets its contract.
 use mathlib.Core.Path.{refl}
 use Rattle.sources.specs.Source.{listOf, Counted}
 use Rattle.requests.proofs.plain.Statement.{statement}

@@ -1,4 +1,4 @@
--- `requests::read_v1` meets its contract. Assumes nothing.
+-- `requests::read_v1` meets its contract.
 use mathlib.Core.Path.{sym, _∙_}
 use borrow.Author.Needs.{needs}
 use Rattle.buffer.specs.First.{pick}

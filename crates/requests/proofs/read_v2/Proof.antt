@@ -1,4 +1,4 @@
--- `requests::read_v2` meets its contract. Assumes nothing.
+-- `requests::read_v2` meets its contract.
 use mathlib.Core.Path.{_≡_, sym, _∙_}
 use mathlib.Core.Bool.{true, false, not}
 use mathlib.Core.List.{List}

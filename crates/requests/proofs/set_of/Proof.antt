@@ -1,4 +1,4 @@
--- `requests::set_of` meets its contract. Assumes nothing.
+-- `requests::set_of` meets its contract.
 use mathlib.Core.Path.{sym, ap}
 use borrow.Author.Needs.{needs}
 use Rattle.requests.specs.AskV2.{setOf}

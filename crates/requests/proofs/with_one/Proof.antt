@@ -1,4 +1,4 @@
--- `requests::with_one` meets its contract. Assumes nothing.
+-- `requests::with_one` meets its contract.
 use mathlib.Core.Path.{refl}
 use borrow.Author.Needs.{needs}
 use Rattle.buffer.proofs.Rules.{past, stop, not-eqb, not-neqb}

@@ -1,4 +1,4 @@
--- `requests::write_of` meets its contract. Assumes nothing.
+-- `requests::write_of` meets its contract.
 use mathlib.Core.Path.{_≡_, ap, _∙_}
 use mathlib.Core.List.{List, [], _∷_}
 use Prim.Native.Nat.{ℕ}

@@ -1,4 +1,4 @@
--- `rewriter::rewrite_opg` meets its contract. Assumes nothing.
+-- `rewriter::rewrite_opg` meets its contract.
 use borrow.Author.Needs.{needs}
 use Rattle.rewriter.proofs.rewrite_opg.Statement.{statement}
 use Rattle.rewriter.proofs.rewrite_opg.Tie as tie

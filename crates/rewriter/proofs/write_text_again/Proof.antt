@@ -1,4 +1,4 @@
--- `rewriter::write_text_again` meets its contract. Assumes nothing.
+-- `rewriter::write_text_again` meets its contract.
 use mathlib.Core.Path.{refl}
 use borrow.Author.Needs.{needs}
 use Rattle.buffer.proofs.Laws.{refuses}

@@ -1,4 +1,4 @@
--- `script::call_at` meets its contract. Assumes nothing.
+-- `script::call_at` meets its contract.
 use borrow.Author.Needs.{needs}
 use Rattle.script.proofs.Places.{call-there}
 use Rattle.script.proofs.call_at.Statement.{statement}

@@ -1,4 +1,4 @@
--- `script::call_of` meets its contract. Assumes nothing.
+-- `script::call_of` meets its contract.
 use borrow.Author.Needs.{needs}
 use Rattle.buffer.proofs.Rules.{rules}
 use Rattle.script.specs.Script.{callOf}

@@ -1,4 +1,4 @@
--- `script::line_of` meets its contract. Assumes nothing.
+-- `script::line_of` meets its contract.
 use native.Mathlib.Omega.{arith}
 use borrow.Author.Needs.{needs}
 use Rattle.buffer.proofs.Rules.{rules}

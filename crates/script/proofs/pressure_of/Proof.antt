@@ -1,4 +1,4 @@
--- `script::pressure_of` meets its contract. Assumes nothing.
+-- `script::pressure_of` meets its contract.
 use native.Mathlib.Omega.{arith}
 use borrow.Author.Needs.{needs}
 use Rattle.buffer.proofs.Rules.{rules}
@@ -18,6 +18,6 @@ pressure-of-spec =
     (λ c. search needs)
     (λ c. search needs)
     (λ c κs. search needs)
-    (λ c. (rw (← (c .word .ensures .0)) (search rules), omega arith))
+    (λ c. (rw (← (c .word .ensures)) (search rules), omega arith))
     (λ c. (search rules depth 12, omega arith))
     (λ c. (search rules depth 12, tt)))

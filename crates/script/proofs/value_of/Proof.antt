@@ -1,4 +1,4 @@
--- `script::value_of` meets its contract. Assumes nothing.
+-- `script::value_of` meets its contract.
 use borrow.Author.Needs.{needs}
 use Rattle.script.proofs.Places.{value-with}
 use Rattle.script.proofs.value_of.Statement.{statement}
@@ -16,4 +16,4 @@ value-of-spec =
     (λ c κs. search needs)
     (λ c. search needs)
     (λ c. search needs)
-    (λ c. value-with _ _ (c .before .before .word .ensures .0)))
+    (λ c. value-with _ _ (c .before .before .word .ensures)))

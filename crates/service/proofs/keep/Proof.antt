@@ -1,4 +1,4 @@
--- `service::keep` meets its contract. Assumes nothing.
+-- `service::keep` meets its contract.
 use mathlib.Core.Path.{refl}
 use native.Mathlib.Omega.{arith}
 use lib.ListN.{length-take}

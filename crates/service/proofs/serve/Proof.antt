@@ -1,4 +1,4 @@
--- `service::serve` meets its contract. Assumes nothing.
+-- `service::serve` meets its contract.
 use Prim.Native.Nat.{_-_}
 use native.Mathlib.Omega.{arith}
 use lib.ListN.{length}

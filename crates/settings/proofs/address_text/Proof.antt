@@ -1,4 +1,4 @@
--- `settings::address_text` meets its contract. Assumes nothing.
+-- `settings::address_text` meets its contract.
 use borrow.Author.Needs.{needs}
 use Rattle.buffer.specs.Text.{textOf, cut}
 use Rattle.settings.proofs.address_text.Statement.{statement}

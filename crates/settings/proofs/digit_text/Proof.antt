@@ -1,4 +1,4 @@
--- `settings::digit_text` meets its contract. Assumes nothing.
+-- `settings::digit_text` meets its contract.
 use borrow.Author.Needs.{needs}
 use Rattle.buffer.specs.Text.{textOf, cut}
 use Rattle.settings.proofs.digit_text.Statement.{statement}

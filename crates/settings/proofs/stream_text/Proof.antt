@@ -1,4 +1,4 @@
--- `settings::stream_text` meets its contract. Assumes nothing.
+-- `settings::stream_text` meets its contract.
 use borrow.Author.Needs.{needs}
 use native.Mathlib.Omega.{arith}
 use mathlib.Core.List.{[], _∷_, _++_}

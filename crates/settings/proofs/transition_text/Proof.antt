@@ -1,4 +1,4 @@
--- `settings::transition_text` meets its contract. Assumes nothing.
+-- `settings::transition_text` meets its contract.
 use mathlib.Core.Path.{_≡_, _∙_}
 use borrow.Author.Needs.{needs}
 use mathlib.Core.List.{append-assoc}

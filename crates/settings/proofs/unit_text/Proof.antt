@@ -1,4 +1,4 @@
--- `settings::unit_text` meets its contract. Assumes nothing.
+-- `settings::unit_text` meets its contract.
 use borrow.Author.Needs.{needs}
 use Rattle.buffer.specs.Text.{textOf, cut}
 use Rattle.settings.specs.Sent.{unitText}

@@ -1,4 +1,4 @@
--- `sources::is_open` meets its contract. Assumes nothing.
+-- `sources::is_open` meets its contract.
 use borrow.Author.Needs.{needs}
 use Rattle.buffer.proofs.Rules.{tests}
 use Rattle.sources.specs.Entries.{opens}

@@ -1,4 +1,4 @@
--- `sources::long_source` meets its contract. Assumes nothing.
+-- `sources::long_source` meets its contract.
 use mathlib.Core.Path.{sym, _∙_}
 use borrow.Author.Needs.{needs}
 use mathlib.Core.Bool.{and-false}

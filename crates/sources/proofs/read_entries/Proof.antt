@@ -1,4 +1,4 @@
--- `sources::read_entries` meets its contract. Assumes nothing.
+-- `sources::read_entries` meets its contract.
 use mathlib.Core.Path.{sym, _∙_}
 use borrow.Author.Needs.{needs}
 use borrow.Author.Tests.{lt-ltb, le-ltb, not-true, not-false}

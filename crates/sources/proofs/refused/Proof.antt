@@ -1,4 +1,4 @@
--- `sources::refused` meets its contract. Assumes nothing.
+-- `sources::refused` meets its contract.
 use mathlib.Core.Path.{refl}
 use Rattle.sources.specs.Source.{listOf, Counted}
 use Rattle.sources.proofs.refused.Statement.{statement}

@@ -1,4 +1,4 @@
--- `sources::run_of` meets its contract. The invariant: the entries read and those that are left are all. Assumes nothing.
+-- `sources::run_of` meets its contract. The invariant: the entries read and those that are left are all.
 use mathlib.Core.Path.{_≡_, refl, ap, _∙_}
 use mathlib.Core.List.{List}
 use Prim.Native.Nat.{ℕ, _+_, _-_, _<_, _≤_}

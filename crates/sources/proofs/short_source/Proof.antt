@@ -1,4 +1,4 @@
--- `sources::short_source` meets its contract. Assumes nothing.
+-- `sources::short_source` meets its contract.
 use mathlib.Core.Path.{sym, ap, _∙_}
 use borrow.Author.Needs.{needs}
 use mathlib.Core.List.{[], _∷_}

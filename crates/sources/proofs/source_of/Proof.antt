@@ -1,4 +1,4 @@
--- `sources::source_of` meets its contract. Assumes nothing.
+-- `sources::source_of` meets its contract.
 use mathlib.Core.Path.{sym, ap, _∙_}
 use borrow.Author.Needs.{needs}
 use mathlib.Core.Bool.{and-false}

@@ -1,4 +1,4 @@
--- `sources::taken` meets its contract. Assumes nothing.
+-- `sources::taken` meets its contract.
 use mathlib.Core.Path.{refl, sym}
 use borrow.Author.Needs.{needs}
 use mathlib.Core.Bool.{and-true, and-false}

@@ -1,4 +1,4 @@
--- `sources::with_list` meets its contract. The invariant: the text so far, with the entries that are left, is the whole text. Assumes nothing.
+-- `sources::with_list` meets its contract. The invariant: the text so far, with the entries that are left, is the whole text.
 use mathlib.Core.Path.{_≡_, refl, sym, ap, _∙_}
 use mathlib.Core.List.{List, [], _∷_, _++_, append-assoc, append-nil}
 use Prim.Native.Nat.{ℕ, _+_, _-_, _<_, _≤_}

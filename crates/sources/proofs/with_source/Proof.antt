@@ -1,4 +1,4 @@
--- `sources::with_source` meets its contract. Assumes nothing.
+-- `sources::with_source` meets its contract.
 use borrow.Author.Needs.{needs}
 use mathlib.Core.List.{append-assoc}
 use borrow.Author.Tests.{eq-eqb, ne-eqb}

@@ -1,11 +1,11 @@
--- `gauge::answer` meets its contract. Assumes nothing.
+-- `text_gauge::answer` meets its contract.
 use mathlib.Core.Path.{sym, _∙_}
 use native.Mathlib.Omega.{arith}
 use borrow.Author.Needs.{needs}
 use borrow.Author.Tests.{lt-ltb, le-ltb}
 use Rattle.buffer.proofs.Laws.{within-in}
-use Rattle.frames_facts.specs.Shape.{six-to-twelve}
-use Rattle.gauge_table.specs.Numbers.{number-5}
+use Rattle.frames_facts.proofs.Shape.{six-to-twelve}
+use Rattle.gauge_table.proofs.Numbers.{number-5}
 use Rattle.text_gauge.proofs.Compose.{tells-at, numbered-at, no-room, silent-answers, v1-answers, v2-answers, length-answers, other-v1, own-v1, other-v2, own-v2, fits-v1, fits-v2}
 use Rattle.text_gauge.proofs.answer.Statement.{statement}
 use Rattle.text_gauge.proofs.answer.Tie as tie
@@ -44,7 +44,7 @@ answer-v1-requires c κs =
 returns-6 : tie.Need-returns-6
 returns-6 c =
     let t = tells-at _ _ (sym (c .before .before .before .before .before .before .before .before .before .head .given .1) ∙ c .before .before .before .before .before .before .before .before .before .before .before .read-frame .ensures) in
-    (v1-answers _ _ _ _ _ (le-ltb _ 64 (c .before .before .before .before .before .before .before .before .before .before .before .before .before .before .if1 .left)) (t .0) (own-v1 _ _ _ (t .2) (c .before .before .before .before .before .before .if2 .left)) _ _ _ (t .1) (t .2) (c .before .before .before .before .before .data-from .ensures) (c .before .before .before .before .read-v1 .ensures) (c .before .before .answer-v1 .ensures .0), c .before .before .answer-v1 .ensures .1)
+    (v1-answers _ _ _ _ _ (le-ltb _ 64 (c .before .before .before .before .before .before .before .before .before .before .before .before .before .before .if1 .left)) (t .0) (own-v1 _ _ _ (t .2) (c .before .before .before .before .before .before .if2 .left)) _ _ _ (t .1) (t .2) (c .before .before .before .before .before .data-v1 .ensures) (c .before .before .before .before .read-v1 .ensures) (c .before .before .answer-v1 .ensures .0), c .before .before .answer-v1 .ensures .1)
 
 -- a wrong LEN
 refuse-v2-requires : tie.Need-refuse-v2-requires
@@ -61,12 +61,12 @@ returns-7 c =
 answer-v2-requires : tie.Need-answer-v2-requires
 answer-v2-requires c κs =
     let t = tells-at _ _ (sym (c .before .before .before .before .before .before .head3 .given .1) ∙ c .before .before .before .before .before .before .before .before .read-frame .ensures) in
-    fits-v2 _ _ (t .0) (c .before .before .before .before .before .before .before .before .before .before .before .if1 .left) _ (t .3) (t .1)
+    (fits-v2 _ _ (t .0) (c .before .before .before .before .before .before .before .before .before .before .before .if1 .left) _ (t .3) (t .1), c .before .before .before .if4 .left)
 
 returns-8 : tie.Need-returns-8
 returns-8 c =
     let t = tells-at _ _ (sym (c .before .before .before .before .before .before .before .before .before .head3 .given .1) ∙ c .before .before .before .before .before .before .before .before .before .before .before .read-frame .ensures) in
-    (v2-answers _ _ _ _ _ (le-ltb _ 64 (c .before .before .before .before .before .before .before .before .before .before .before .before .before .before .if1 .left)) (t .0) (own-v2 _ _ _ (t .3) (c .before .before .before .before .before .before .if4 .left)) _ _ _ _ (t .1) (t .2) (t .3) (c .before .before .before .before .before .data-from2 .ensures) (c .before .before .before .before .read-v2 .ensures .ask) (c .before .before .before .before .read-v2 .ensures .list) (c .before .before .answer-v2 .ensures .0), λ n. c .before .before .answer-v2 .ensures .1 n (c .before .before .before .before .read-v2 .ensures .count))
+    (v2-answers _ _ _ _ _ (le-ltb _ 64 (c .before .before .before .before .before .before .before .before .before .before .before .before .before .before .if1 .left)) (t .0) (own-v2 _ _ _ (t .3) (c .before .before .before .before .before .before .if4 .left)) _ _ _ _ (t .1) (t .2) (t .3) (c .before .before .before .before .before .data-v2 .ensures) (c .before .before .before .before .read-v2 .ensures .ask) (c .before .before .before .before .read-v2 .ensures .list) (c .before .before .answer-v2 .ensures .0), λ n. c .before .before .answer-v2 .ensures .1 n (c .before .before .before .before .read-v2 .ensures .count))
 
 pub answer-spec : {M : Type 1} → statement M
 answer-spec =

@@ -1,9 +1,28 @@
--- `gauge::answer_v2` meets its contract. Assumes nothing.
+-- `text_gauge::answer_v2` meets its contract.
+use mathlib.Core.Path.{sym}
 use borrow.Author.Needs.{needs}
-use Rattle.gauge_table.specs.Sendable.{code-digit, text-printed}
+use Rattle.gauge_table.proofs.Sendable.{code-digit, text-printed}
 use Rattle.text_gauge.proofs.Compose.{refused-v2, denied-v2, granted-v2}
 use Rattle.text_gauge.proofs.answer_v2.Statement.{statement}
 use Rattle.text_gauge.proofs.answer_v2.Tie as tie
+
+denied : tie.Need-returns
+denied c = (denied-v2 _ _ _ _ _ _ _ _ _ _ (c .before .before .before .before .before .before .before .before .ask2 .given .1) (c .before .before .before .before .before .before .number-v2 .ensures) (c .before .before .before .before .before .if1 .taken) (c .same2 .ensures) (c .before .before .before .refuse-v22 .ensures), λ n _. rw (c .same2 .ensures .0) n)
+
+-- the reply comes from the address that the request named, which is the gauge's before the request
+from-old-address : tie.Need-reply-v2-requires
+from-old-address c κs =
+    let p = c .before .before .before .before .before .before .before .before .before .before .before .before .pre in
+    (p .0, (sym (p .1), (rw (c .before .answer-code .ensures) (code-digit _), rw (c .before .before .before .before .text-v2 .ensures) (text-printed _ _))))
+
+refused : tie.Need-returns-2
+refused c = (refused-v2 _ _ _ _ _ _ _ _ _ (c .before .before .before .before .before .before .ask .given .1) (c .same .ensures) (c .before .before .before .refuse-v2 .ensures), λ n _. rw (c .same .ensures .0) n)
+
+granted : tie.Need-returns-3
+granted c =
+    let entered = c .before .before .before .before .before .before .enter-v2 .ensures in
+    let after = c .with-settings .ensures in
+    (granted-v2 _ _ _ _ _ _ _ _ _ _ _ _ _ (c .before .before .before .before .before .before .before .before .before .before .before .before .ask2 .given .1) (c .before .before .before .before .before .before .before .before .before .before .number-v2 .ensures) (c .before .before .before .before .before .before .before .before .before .if1 .left) (c .before .before .before .before .before .answer-code .ensures) (c .before .before .before .before .before .before .before .before .text-v2 .ensures) (c .before .before .before .reply-v2 .ensures) (entered .0) (after .0), λ n k. rw (after .1) (entered .1 n k))
 
 pub answer-v2-spec : {M : Type 1} → statement M
 answer-v2-spec =
@@ -17,12 +36,13 @@ answer-v2-spec =
     (λ c κs. search needs)
     (λ c κs. search needs)
     (λ c. search needs)
-    (λ c. (denied-v2 _ _ _ _ _ _ _ _ _ _ (c .before .before .before .before .before .before .before .before .ask2 .given .1) (c .before .before .before .before .before .before .number-v2 .ensures) (c .before .before .before .before .before .if1 .taken) (c .same2 .ensures) (c .before .before .before .refuse-v22 .ensures), λ n _. rw (c .same2 .ensures .0) n))
+    denied
     (λ c κs. search needs)
     (λ c κs. search needs)
-    (λ c κs. (c .before .before .before .before .before .before .before .before .before .before .pre, (rw (c .answer-code .ensures) (code-digit _), rw (c .before .before .text-v2 .ensures) (text-printed _ _))))
+    (λ c κs. search needs)
+    from-old-address
     (λ c κs. search needs)
     (λ c. search needs)
-    (λ c. (refused-v2 _ _ _ _ _ _ _ _ _ (c .before .before .before .before .before .before .ask .given .1) (c .same .ensures) (c .before .before .before .refuse-v2 .ensures), λ n _. rw (c .same .ensures .0) n))
+    refused
     (λ c. search needs)
-    (λ c. (granted-v2 _ _ _ _ _ _ _ _ _ _ _ _ (c .before .before .before .before .before .before .before .before .before .before .before .before .ask2 .given .1) (c .before .before .before .before .before .before .before .before .before .before .number-v2 .ensures) (c .before .before .before .before .before .before .before .before .before .if1 .left) (c .before .before .before .before .before .before .answer-code .ensures) (c .before .before .before .before .before .before .before .before .text-v2 .ensures) (c .before .before .before .before .before .reply-v2 .ensures) (c .enter-v2 .ensures .0), c .enter-v2 .ensures .1)))
+    granted)

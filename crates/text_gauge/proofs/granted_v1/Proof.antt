@@ -1,9 +1,9 @@
--- `gauge::granted_v1` meets its contract. Assumes nothing.
+-- `text_gauge::granted_v1` meets its contract.
 use mathlib.Core.Path.{sym, _∙_}
 use borrow.Author.Needs.{needs}
 use Rattle.buffer.specs.First.{pick}
 use Rattle.gauge_rules.specs.State.{stateOf}
-use Rattle.gauge_table.specs.Sendable.{text-printed-v1}
+use Rattle.gauge_table.proofs.Sendable.{text-printed-v1}
 use Rattle.text_gauge.proofs.Sends.{text-v1-le}
 use Rattle.text_gauge.proofs.granted_v1.Statement.{statement}
 use Rattle.text_gauge.proofs.granted_v1.Tie as tie

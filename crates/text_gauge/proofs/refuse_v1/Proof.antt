@@ -1,6 +1,6 @@
--- `gauge::refuse_v1` meets its contract. Assumes nothing.
+-- `text_gauge::refuse_v1` meets its contract.
 use borrow.Author.Needs.{needs}
-use Rattle.gauge_table.specs.Sendable.{error-sendable-v1}
+use Rattle.gauge_table.proofs.Sendable.{error-sendable-v1}
 use Rattle.text_gauge.proofs.Sends.{renumbered, sent-v1}
 use Rattle.text_gauge.proofs.refuse_v1.Statement.{statement}
 use Rattle.text_gauge.proofs.refuse_v1.Tie as tie

@@ -1,9 +1,9 @@
--- `gauge::refuse_v2` meets its contract. Assumes nothing.
+-- `text_gauge::refuse_v2` meets its contract.
 use native.Mathlib.Omega.{arith}
 use borrow.Author.Needs.{needs}
-use Rattle.frame_writer.specs.Error.{errorOf}
-use Rattle.printed_facts.specs.Fits.{error-le}
-use Rattle.gauge_table.specs.Sendable.{error-sendable-v2}
+use Rattle.error_texts.specs.Texts.{errorOf}
+use Rattle.printed_facts.proofs.Fits.{error-le}
+use Rattle.gauge_table.proofs.Sendable.{error-sendable-v2}
 use Rattle.text_gauge.proofs.Sends.{renumbered, sent-v2}
 use Rattle.text_gauge.proofs.refuse_v2.Statement.{statement}
 use Rattle.text_gauge.proofs.refuse_v2.Tie as tie

@@ -1,4 +1,4 @@
--- `gauge::repeat` meets its contract. Assumes nothing.
+-- `text_gauge::repeat` meets its contract.
 use mathlib.Core.Path.{refl}
 use borrow.Author.Needs.{needs}
 use Rattle.buffer.proofs.Laws.{sends}

@@ -1,6 +1,6 @@
--- `gauge::reply_v1` meets its contract. Assumes nothing.
+-- `text_gauge::reply_v1` meets its contract.
 use borrow.Author.Needs.{needs}
-use Rattle.gauge_table.specs.Sendable.{data-sendable-v1}
+use Rattle.gauge_table.proofs.Sendable.{data-sendable-v1}
 use Rattle.text_gauge.proofs.Sends.{sent-v1}
 use Rattle.text_gauge.proofs.reply_v1.Statement.{statement}
 use Rattle.text_gauge.proofs.reply_v1.Tie as tie

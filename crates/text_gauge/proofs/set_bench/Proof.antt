@@ -1,4 +1,4 @@
--- `gauge::set_bench` meets its contract. Assumes nothing.
+-- `text_gauge::set_bench` meets its contract.
 use mathlib.Core.Path.{_≡_, refl, sym, _∙_}
 use borrow.Author.Needs.{needs}
 use Rattle.readings.specs.Bench.{benchOf}
@@ -10,16 +10,17 @@ use Rattle.text_gauge.proofs.set_bench.Tie as tie
 returns : tie.Need-returns
 unfolding benched
 returns c =
-    let e : benchOf (c .before .before .before .before .before .args .b) ≡ Refused = sym (c .before .before .judge-bench .ensures) ∙ c .enum-told .given .1 in
+    let e : benchOf (c .before .before .before .before .args .b) ≡ Refused = sym (c .before .before .judge-bench .ensures) ∙ c .enum-told .given .1 in
     (record { number = rw e refl; state = rw e }, λ n. n)
 
 returns-2 : tie.Need-returns-2
 unfolding benched
 returns-2 c =
-    let e = sym (c .before .before .before .before .judge-bench .ensures) ∙ c .before .before .x .given .1 in
-    (record { number = rw e; state = rw (e, c .with .ensures) }, λ n. n)
+    let e = sym (c .before .before .before .before .before .judge-bench .ensures) ∙ c .before .before .before .x .given .1 in
+    let r = c .with-readings .ensures in
+    (record { number = rw e; state = r .0 ∙ rw (e, c .before .with .ensures) }, λ n. rw (r .1) n)
 
 pub set-bench-spec : {M : Type 1} → statement M
 set-bench-spec =
     tie.close
-    (tie.spec (λ c κs. search needs) (λ c. search needs) (λ c. search needs) (λ c κs. search needs) returns returns-2)
+    (tie.spec (λ c κs. search needs) (λ c. search needs) (λ c. search needs) (λ c κs. search needs) (λ c κs. search needs) returns returns-2)

@@ -1,4 +1,4 @@
--- `buffer::Text::add` meets its contract. The invariant: the text so far is what was read, cut. Assumes nothing.
+-- `buffer::Text::add` meets its contract. The invariant: the text so far is what was read, cut.
 use mathlib.Core.Path.{_≡_, refl, sym, _∙_}
 use mathlib.Core.List.{_++_, append-assoc, append-nil}
 use Prim.Native.Nat.{_-_, _≤_}

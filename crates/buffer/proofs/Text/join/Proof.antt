@@ -1,4 +1,4 @@
--- `buffer::Text::join` meets its contract. Assumes nothing.
+-- `buffer::Text::join` meets its contract.
 use native.Mathlib.Omega.{arith}
 use borrow.Author.Needs.{needs}
 use lib.ListN.{length-take}

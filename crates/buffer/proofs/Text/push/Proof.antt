@@ -1,4 +1,4 @@
--- `buffer::Text::push` meets its contract. Assumes nothing.
+-- `buffer::Text::push` meets its contract.
 use borrow.Author.Needs.{needs}
 use Rattle.buffer.specs.Text.{textOf, cut}
 use Rattle.buffer.proofs.Laws.{filled, full}

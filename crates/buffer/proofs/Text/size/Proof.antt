@@ -1,4 +1,4 @@
--- `buffer::Text::size` meets its contract. Assumes nothing.
+-- `buffer::Text::size` meets its contract.
 use borrow.Author.Needs.{needs}
 use Rattle.buffer.specs.Text.{textOf}
 use Rattle.buffer.proofs.Laws.{count-in, count-full}

@@ -1,4 +1,4 @@
--- `decimal::Number::is_below` meets its contract. Assumes nothing.
+-- `decimal::Number::is_below` meets its contract.
 use mathlib.Core.Path.{sym}
 use borrow.Author.Needs.{needs}
 use native.Mathlib.Omega.{arith}

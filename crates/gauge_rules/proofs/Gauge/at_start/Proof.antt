@@ -1,4 +1,4 @@
--- `gauge_rules::Gauge::at_start` meets its contract. Assumes nothing.
+-- `gauge_rules::Gauge::at_start` meets its contract.
 use borrow.Author.Needs.{needs}
 use Rattle.gauge_rules.proofs.Gauge.at_start.Statement.{statement}
 use Rattle.gauge_rules.proofs.Gauge.at_start.Tie as tie

@@ -1,4 +1,4 @@
--- `opg_commands::Settings::with` meets its contract. Each arm by its constructor. Assumes nothing.
+-- `opg_commands::Settings::with` meets its contract. Each arm by its constructor.
 use mathlib.Core.Path.{sym, ap}
 use borrow.Author.Needs.{needs}
 use Rattle.opg_commands.specs.Settings.{entered}

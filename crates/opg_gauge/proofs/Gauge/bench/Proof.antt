@@ -1,4 +1,4 @@
--- `opg_gauge::Gauge::bench` meets its contract. Assumes nothing.
+-- `opg_gauge::Gauge::bench` meets its contract.
 use mathlib.Core.Path.{sym, _∙_}
 use borrow.Author.Needs.{needs}
 use borrow.Author.Tests.{not-true, not-false}

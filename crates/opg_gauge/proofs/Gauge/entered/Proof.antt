@@ -1,4 +1,4 @@
--- `opg_gauge::Gauge::entered` meets its contract. Assumes nothing.
+-- `opg_gauge::Gauge::entered` meets its contract.
 use borrow.Author.Needs.{needs}
 use Rattle.opg_gauge.specs.Judged.{after}
 use Rattle.opg_gauge.proofs.Laws.{refused-keeps}

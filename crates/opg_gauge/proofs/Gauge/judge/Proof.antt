@@ -1,4 +1,4 @@
--- `opg_gauge::Gauge::judge` meets its contract. Assumes nothing.
+-- `opg_gauge::Gauge::judge` meets its contract.
 use mathlib.Core.Path.{sym, ap, _∙_}
 use borrow.Author.Needs.{needs}
 use borrow.Author.Tests.{lt-ltb}

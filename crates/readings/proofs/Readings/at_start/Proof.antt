@@ -1,4 +1,4 @@
--- `readings::Readings::at_start` meets its contract. Assumes nothing.
+-- `readings::Readings::at_start` meets its contract.
 use mathlib.Core.Path.{refl}
 use Rattle.readings.proofs.Readings.at_start.Statement.{statement}
 use Rattle.readings.proofs.Readings.at_start.Tie as tie

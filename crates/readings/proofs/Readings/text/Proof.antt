@@ -1,4 +1,4 @@
--- `readings::Readings::text` meets its contract. Assumes nothing.
+-- `readings::Readings::text` meets its contract.
 use borrow.Author.Needs.{needs}
 use Rattle.buffer.specs.First.{pick}
 use Rattle.buffer.proofs.Rules.{rules}

@@ -1,4 +1,4 @@
--- `readings::Readings::with` meets its contract. Assumes nothing.
+-- `readings::Readings::with` meets its contract.
 use borrow.Author.Needs.{needs}
 use Rattle.readings.specs.Reading.{putReading}
 use Rattle.readings.proofs.Readings.with.Statement.{statement}

@@ -1,4 +1,4 @@
--- `settings::Settings::at_factory` meets its contract. Assumes nothing.
+-- `settings::Settings::at_factory` meets its contract.
 use mathlib.Core.Path.{refl}
 use Rattle.sources.specs.Source.{listOf, Counted}
 use Rattle.settings.proofs.Settings.at_factory.Statement.{statement}

@@ -1,4 +1,4 @@
--- `settings::Settings::factory_value` meets its contract. Assumes nothing.
+-- `settings::Settings::factory_value` meets its contract.
 use mathlib.Core.Path.{sym, ap}
 use borrow.Author.Needs.{needs}
 use Rattle.settings.specs.Settings.{factoryOf}

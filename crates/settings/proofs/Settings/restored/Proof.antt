@@ -1,4 +1,4 @@
--- `settings::Settings::restored` meets its contract. Assumes nothing.
+-- `settings::Settings::restored` meets its contract.
 use mathlib.Core.Path.{refl}
 use borrow.Author.Needs.{needs}
 use Rattle.sources.specs.Source.{listOf, Counted}

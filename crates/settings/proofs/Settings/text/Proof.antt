@@ -1,4 +1,4 @@
--- `settings::Settings::text` meets its contract. Assumes nothing.
+-- `settings::Settings::text` meets its contract.
 use borrow.Author.Needs.{needs}
 use Rattle.settings.specs.Sent.{readText}
 use Rattle.settings.proofs.Settings.text.Statement.{statement}

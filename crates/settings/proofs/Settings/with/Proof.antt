@@ -1,4 +1,4 @@
--- `settings::Settings::with` meets its contract. Assumes nothing.
+-- `settings::Settings::with` meets its contract.
 use mathlib.Core.Path.{refl}
 use borrow.Author.Needs.{needs}
 use Rattle.settings.specs.Settings.{putOf}

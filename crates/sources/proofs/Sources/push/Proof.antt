@@ -1,4 +1,4 @@
--- `sources::Sources::push` meets its contract. Assumes nothing.
+-- `sources::Sources::push` meets its contract.
 use borrow.Author.Needs.{needs}
 use Rattle.sources.proofs.Laws.{pushed-full, pushed-in}
 use Rattle.sources.proofs.Sources.push.Statement.{statement}

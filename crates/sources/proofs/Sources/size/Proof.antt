@@ -1,4 +1,4 @@
--- `sources::Sources::size` meets its contract. Assumes nothing.
+-- `sources::Sources::size` meets its contract.
 use borrow.Author.Needs.{needs}
 use Rattle.sources.specs.Source.{listOf}
 use Rattle.buffer.proofs.Laws.{count-in, count-full}

@@ -1,0 +1,59 @@
+-- Document 01, SM: "a read sends the text as accepted".
+use mathlib.Core.Path.{_≡_, refl}
+use mathlib.Core.Bool.{Bool, true, false, not, _&&_, or-false}
+use mathlib.Core.List.{List, [], _∷_}
+use Prim.Native.Nat.{ℕ, suc}
+use native.Mathlib.Omega.{arith}
+use borrow.Author.Tests.{eqb-true, leb-false, not-false}
+use lib.Dec.{eqb, leb}
+use lib.ListN.{length, drop}
+use Rattle.buffer.specs.First.{pick}
+use Rattle.buffer.specs.Byte.{leading, startsWith}
+use Rattle.sources.specs.Entries.{entriesNumber, entriesList}
+use Rattle.settings.specs.Sent.{streamText}
+use Rattle.settings.specs.declared.Setting.the-variants.{Stream}
+use Rattle.forms.specs.Forms.{idleList, knownMode, streamOf, streamData}
+use Rattle.forms.specs.declared.Verdict.the-variants.{Set, Refused}
+use Rattle.forms_facts.proofs.Lemmas.Lists.{Fits, fits, entries-again}
+use Rattle.forms_facts.specs.Theorems.{SentAsAccepted}
+
+-- what an accepted stream went by
+record Streams (s : List ℕ) (n : ℕ) (on : Bool) : Type 0 where
+  some : eqb (leading s) 0 ≡ false
+  formed : eqb n 10 ≡ false
+  busy : idleList s ≡ false
+  mode : knownMode s ≡ true
+  known : eqb n 11 ≡ false
+  told : startsWith 52 s ≡ on
+
+streams : (s : List ℕ) (n : ℕ) (on a b c d e : Bool) → eqb (leading s) 0 ≡ a → eqb n 10 ≡ b → idleList s ≡ c → not (knownMode s) ≡ d → eqb n 11 ≡ e
+    → pick a (Refused 10) (pick b (Refused 10) (pick c (Refused 10) (pick d (Refused 11) (pick e (Refused 11) (Set (Stream (startsWith 52 s))))))) ≡ Set (Stream on)
+    → Streams s n on
+unfolding pick
+streams s n on false false false false false p q r t u h = record { some = p; formed = q; busy = r; mode = not-false _ t; known = u; told = cc }
+streams s n on true b c d e p q r t u h = absurd (let z : _≡_ {A = ℕ} 0 1 = cc in omega arith)
+streams s n on false true c d e p q r t u h = absurd (let z : _≡_ {A = ℕ} 0 1 = cc in omega arith)
+streams s n on false false true d e p q r t u h = absurd (let z : _≡_ {A = ℕ} 0 1 = cc in omega arith)
+streams s n on false false false true e p q r t u h = absurd (let z : _≡_ {A = ℕ} 0 1 = cc in omega arith)
+streams s n on false false false false true p q r t u h = absurd (let z : _≡_ {A = ℕ} 0 1 = cc in omega arith)
+
+-- a text of one character
+alone : (x : ℕ) (s : List ℕ) (b : Bool) → (b && leb 2 (suc (length s))) ≡ false → b ≡ true → s ≡ []
+alone x [] b e h = refl
+alone x (y ∷ s) b e h = absurd (let w = leb-false 2 (suc (suc (length s))) (rw h at e) in omega arith)
+
+sent : (s : List ℕ) (on : Bool) → Streams s (entriesNumber (drop 1 s)) on → streamText on (entriesList (drop 1 s)) ≡ s
+unfolding leading startsWith idleList knownMode streamText
+sent [] on w = absurd (let z : _≡_ {A = ℕ} 0 1 = cc (w .some) in omega arith)
+sent (x ∷ s) on w = go on (w .told) (w .busy) (w .mode) (fits s (w .formed) (w .known))
+  where
+    go : (on : Bool) → startsWith 52 (x ∷ s) ≡ on → idleList (x ∷ s) ≡ false → knownMode (x ∷ s) ≡ true → Fits s → streamText on (entriesList s) ≡ x ∷ s
+    go true e i m f = cc (eqb-true x 52 e, entries-again s f)
+    go false e i m f =
+        let z : eqb x 48 ≡ true = rw (e, or-false) at m in
+        cc (alone x s (eqb x 48) i z, eqb-true x 48 z)
+
+-- "a read sends the text as accepted"
+pub sent-as-accepted : SentAsAccepted
+unfolding streamData streamOf
+sent-as-accepted s on e = sent s on (streams s (entriesNumber (drop 1 s)) on _ _ _ _ _ refl refl refl refl refl e)

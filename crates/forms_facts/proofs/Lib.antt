@@ -1,0 +1,9 @@
+-- The proofs of specs/Theorems, and what they rest on.
+pub mod Digit
+pub mod Exactly
+pub mod Within
+pub mod Kept
+pub mod Again
+pub mod Read
+pub mod Examples
+pub mod Lemmas

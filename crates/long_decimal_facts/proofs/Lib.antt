@@ -1,0 +1,2 @@
+-- The proof of specs/Theorems.
+pub mod Agrees

@@ -1,0 +1,189 @@
+-- What a request that was read holds, so that the writer forms it as it is.
+use mathlib.Core.Path.{_≡_, refl, sym, ap, _∙_}
+use mathlib.Core.Bool.{Bool, true, false, not, _&&_, true≢false}
+use mathlib.Core.List.{List, [], _∷_}
+use Prim.Native.Nat.{ℕ, _<_, _≤_}
+use native.Mathlib.Omega.{arith}
+use borrow.Author.Tests.{eqb-true, eqb-false, lt-leb, le-ltb, not-false}
+use lib.Dec.{eqb}
+use lib.ListN.{length, take}
+use Rattle.buffer.specs.First.{pick}
+use Rattle.buffer.specs.Byte.{within, isDigit, every, numeral, numeralFrom}
+use Rattle.buffer.proofs.Laws.{within-true, within-in}
+use Rattle.buffer.proofs.Rules.{past, each}
+use Rattle.decimal.specs.Exact.{units, normalOf}
+use Rattle.decimal.specs.declared.Number.{Number}
+use Rattle.decimal.specs.declared.Parsed.the-variants.{Value}
+use Rattle.decimal_facts.proofs.Value.{exact}
+use Rattle.frames.specs.Frame.{addressOf, wrongAddress}
+use Rattle.frames.specs.declared.HeadV2.{HeadV2}
+use Rattle.sources.specs.Source.{mostEntries, listOf, Counted}
+use Rattle.sources.specs.Entries.{sourceTexts, entriesOf, opens, entriesNumber, entriesList}
+use Rattle.sources.specs.declared.Sources.{Sources}
+use Rattle.settings.specs.Limits.{standard}
+use Rattle.settings.specs.Sent.{streamText}
+use Rattle.settings.specs.declared.Key.{Key}
+use Rattle.settings.specs.declared.Key.the-variants.{SM}
+use Rattle.settings.specs.declared.Transition.{Transition}
+use Rattle.settings.specs.declared.Transition.the-variants.{Direct, Between}
+use Rattle.settings.specs.declared.Setting.{Setting}
+use Rattle.settings.specs.declared.Setting.the-variants.{Address, PressureIn, Factor, Control, Cathode, Filament, Switch, Stream}
+use Rattle.forms.specs.Forms.{factorIn, limitedOf, directOf, betweenOf, transitionOf}
+use Rattle.forms.specs.Judged.{verdictOf, ifSet, listIn}
+use Rattle.forms.specs.declared.Limited.the-variants.{Fine}
+use Rattle.forms.specs.declared.Verdict.{Verdict}
+use Rattle.forms.specs.declared.Verdict.the-variants as verdict
+use Rattle.forms_facts.specs.Sound.{InLimits, Sound}
+use Rattle.forms_facts.proofs.Within.{accepted-sound, accepted-list}
+use Rattle.forms_facts.proofs.Exactly.{accepted-exactly}
+use Rattle.forms_facts.proofs.Again.{sent-as-accepted}
+use Rattle.forms_facts.proofs.Lemmas.Lacks.{split}
+use Rattle.requests.specs.Command.{commandOf, writeCode, restoreCode, isAccess, lacksAccess}
+use Rattle.requests.specs.AskV2.{setOf, writeOf, askKnown, askNamed, askV2, writeList, namedList, askList}
+use Rattle.requests.specs.declared.Command.{Command}
+use Rattle.requests.specs.declared.Command.the-variants.{MV, T2, FN, FS, Of}
+use Rattle.requests.specs.declared.Named.{Named}
+use Rattle.requests.specs.declared.Named.the-variants.{Known, Unknown}
+use Rattle.requests.specs.declared.RequestV2.{RequestV2}
+use Rattle.requests.specs.declared.RequestV2.the-variants.{Read, Restore, Set}
+use Rattle.requests.specs.declared.AskV2.{AskV2}
+use Rattle.requests.specs.declared.AskV2.the-variants.{Asks, Refused}
+use Rattle.request_writer.specs.Typed.{exactly, limitedNumber, endsIn, typedDigit, judgedDigit, typedAddress, typedVerdict, formedV2}
+use Rattle.written_facts.specs.Judged.{streamVerdict, listVerdict}
+use Rattle.written_facts.proofs.Judged.{counted-judged}
+use Rattle.written_facts.proofs.Lemmas.Typed.{ListFits}
+use Rattle.settings.proofs.Laws.{factor-is}
+
+-- ---- what was read
+
+-- a restore that the command has; a setting within the limits, and beside it a list that fits
+abbrev pub Good : AskV2 → List ℕ → Type 0
+Good (Asks (Read c)) list = Unit {0}
+Good (Asks (Restore c)) list = lacksAccess restoreCode c ≡ false
+Good (Asks (Set x)) list = Sound x × ListFits x list
+Good (Refused k) list = Unit {0}
+
+-- one test before two things
+both : (t : Bool) (a b : AskV2) (c d : List ℕ) → (t ≡ true → Good a c) → (t ≡ false → Good b d) → Good (pick t a b) (pick t c d)
+unfolding pick
+both true a b c d f g = f refl
+both false a b c d f g = g refl
+
+-- mode 0 has no list
+idle : (s : List ℕ) → verdictOf SM s ≡ verdict.Set (Stream false) → listIn SM s ≡ []
+unfolding verdictOf listIn ifSet streamText entriesList entriesNumber entriesOf sourceTexts opens every pick
+idle s e =
+    let h : s ≡ 48 ∷ [] = sym (sent-as-accepted s false e) in
+    rw e (rw h)
+
+fits : (key : Key) (s : List ℕ) (x : Setting) → verdictOf key s ≡ verdict.Set x → ListFits x (listIn key s)
+fits key s (Address v) e = tt
+fits key s (PressureIn v) e = tt
+fits key s (Factor v) e = tt
+fits key s (Control v) e = tt
+fits key s (Cathode v) e = tt
+fits key s (Filament v) e = tt
+fits key s (Switch v) e = tt
+fits key s (Stream on) e =
+    let k : SM ≡ key = accepted-exactly key s (Stream on) .0 e .0 in
+    (accepted-list key s, λ z. rw (← k) (idle s (rw (← k, z) at e)))
+
+write-good : (c : Command) (s : List ℕ) → Good (writeOf c s) (writeList c s)
+unfolding writeOf writeList setOf
+write-good MV s = tt
+write-good T2 s = tt
+write-good FN s = tt
+write-good FS s = tt
+write-good (Of key) s = go (verdictOf key s) refl
+  where
+    go : (v : Verdict) → verdictOf key s ≡ v → Good (setOf v) (listIn key s)
+    go (verdict.Set x) e = (accepted-sound key s x e, fits key s x e)
+    go (verdict.Refused k) e = tt
+
+known-good : (access : ℕ) (c : Command) (s : List ℕ) → Good (askKnown access c s) (namedList access (Known c) s)
+unfolding askKnown namedList
+known-good access c s =
+    both (lacksAccess access c) (Refused 9) _ [] _ (λ _. tt)
+    (λ l. both (eqb access writeCode) (writeOf c s) _ (writeList c s) [] (λ _. write-good c s)
+    (λ _. each (λ (a : AskV2). Good a []) (not (eqb (length s) 0)) (Refused 10) _ (λ _. tt)
+    (λ _. each (λ (a : AskV2). Good a []) (eqb access restoreCode) (Asks (Restore c)) (Asks (Read c)) (λ e. rw (eqb-true access restoreCode e) at l) (λ _. tt))))
+
+pub asked-good : (h : HeadV2) (s : List ℕ) → Good (askV2 h s) (askList h s)
+unfolding askV2 askList askNamed namedList
+asked-good h s = both (not (isAccess (h .access))) (Refused 7) _ [] _ (λ _. tt) (λ _. go (commandOf (h .first) (h .second)))
+  where
+    go : (n : Named) → Good (askNamed (h .access) n s) (namedList (h .access) n s)
+    go Unknown = tt
+    go (Known c) = known-good (h .access) c s
+
+-- ---- the writer forms it as it is
+
+number-as : (n : Number) → InLimits n → limitedNumber n ≡ Fine n
+unfolding limitedNumber limitedOf units pick
+number-as n h =
+    let e : normalOf (exactly n) ≡ Value n = exact (exactly n) n .1 (record { canonical = h .canonical; size = refl; sign = λ _. refl }) in
+    rw (e, h .low, h .high)
+
+switch-as : (t : Transition) → Sound (Switch t) → transitionOf (endsIn t) ≡ verdict.Set (Switch t)
+unfolding transitionOf endsIn directOf betweenOf pick
+switch-as (Direct n) h = rw (number-as n h)
+switch-as (Between a b) h = rw (number-as a (h .0), number-as b (h .1), h .2)
+
+digit-as : (x : Setting) (most d : ℕ) → most < 10 → d ≤ most → judgedDigit x (typedDigit most d) ≡ verdict.Set x
+unfolding judgedDigit typedDigit pick
+digit-as x most d h k = rw (lt-leb 10 d (omega arith), le-ltb most d k)
+
+stream-as : (on : Bool) (list : List ℕ) → ListFits (Stream on) list → listVerdict on list ≡ verdict.Set (Stream on)
+unfolding streamVerdict
+stream-as on list h =
+    sym (past _ _ _ _ (no-list on (h .1)) (past _ _ _ _ (ap not (h .0 .known)) (past _ _ _ _ (le-ltb mostEntries (length list) (h .0 .few)) refl)))
+  where
+    no-list : (b : Bool) → (b ≡ false → list ≡ []) → (not b && not (eqb (length list) 0)) ≡ false
+    no-list true f = refl
+    no-list false f = rw (f refl)
+
+typed-as : (x : Setting) (q : Sources) → Counted q → Sound x → ListFits x (listOf q) → typedVerdict x q ≡ verdict.Set x
+unfolding typedVerdict typedAddress factorIn pick
+typed-as (Address v) q n h f = rw (within-in (standard .addressLow) (standard .addressHigh) v (h .0) (h .1))
+typed-as (PressureIn u) q n h f = refl
+typed-as (Factor v) q n h f = rw (factor-is v (h .0) (h .1))
+typed-as (Control d) q n h f = digit-as (Control d) (standard .controlHigh) d (omega arith) h
+typed-as (Cathode d) q n h f = digit-as (Cathode d) (standard .cathodeHigh) d (omega arith) h
+typed-as (Filament d) q n h f = digit-as (Filament d) (standard .filamentHigh) d (omega arith) h
+typed-as (Switch t) q n h f = switch-as t h
+typed-as (Stream on) q n h f = counted-judged on q n ∙ stream-as on (listOf q) f
+
+pub formed-as : (r : RequestV2) (q : Sources) → Counted q → Good (Asks r) (listOf q) → formedV2 r q ≡ Asks r
+unfolding formedV2 setOf pick
+formed-as (Read c) q n g = refl
+formed-as (Restore c) q n g = rw g
+formed-as (Set x) q n g = ap setOf (typed-as x q n (g .0) (g .1))
+
+-- ---- the address of a frame
+
+digit-le : (x : ℕ) (s : List ℕ) → every isDigit (x ∷ s) ≡ true → x ≤ 57
+unfolding every
+digit-le x s e = within-true 48 57 x (split (isDigit x) (every isDigit s) e .0) .1
+
+rest : (x : ℕ) (s : List ℕ) → every isDigit (x ∷ s) ≡ true → every isDigit s ≡ true
+unfolding every
+rest x s e = split (isDigit x) (every isDigit s) e .1
+
+three-digits : (s : List ℕ) → every isDigit (take 3 s) ≡ true → numeral (take 3 s) ≤ 999
+unfolding every numeralFrom
+three-digits [] e = omega arith
+three-digits (x ∷ []) e = omega (arith, digit-le x [] e)
+three-digits (x ∷ y ∷ []) e = omega (arith, digit-le x (y ∷ []) e, digit-le y [] (rest x (y ∷ []) e))
+three-digits (x ∷ y ∷ z ∷ s) e =
+    let f = rest x (y ∷ z ∷ []) e in
+    omega (arith, digit-le x (y ∷ z ∷ []) e, digit-le y (z ∷ []) f, digit-le z [] (rest y (z ∷ []) f))
+
+pub address-in : (s : List ℕ) → wrongAddress s ≡ false → within 1 999 (addressOf s) ≡ true
+unfolding wrongAddress
+address-in s =
+    each P (not (every isDigit (take 3 s))) true _ (λ _ z. absurd (true≢false z))
+    (λ e. each P (eqb (addressOf s) 0) true false (λ _ z. absurd (true≢false z))
+    (λ f _. within-in 1 999 (addressOf s) (omega (arith, eqb-false (addressOf s) 0 f)) (three-digits s (not-false _ e))))
+  where
+    P : Bool → Type 0
+    P b = b ≡ false → within 1 999 (addressOf s) ≡ true

@@ -8,7 +8,6 @@ use lib.Dec.{eqb, ltb}
 use lib.ListN.{length, take, drop}
 use Rattle.buffer.specs.First.{pick}
 use Rattle.buffer.specs.Byte.{at, isDigit, sameText, untilOf}
-use Rattle.buffer.specs.Quoted.{bytes}
 use Rattle.buffer.proofs.Rules.{each}
 use Rattle.frames.specs.Frame.{dataFrom}
 use Rattle.error_texts.specs.Texts.{errorBytes}
@@ -264,7 +263,7 @@ setting-number ST s = ends-number s
 setting-number SM s = held _ (stream-low s (entriesNumber (drop 1 s)))
 
 value-number : (c : Command) (d : List ℕ) → Numbered (valueReply c d) (rows (badValue c d) (outside c d))
-unfolding valueReply badValue outside unmeasured pressureReply bytes
+unfolding valueReply badValue outside unmeasured pressureReply
 value-number MV d =
     to (either (sameText d underText) (sameText d overText) (eqb (parsedNumber (numberOf d)) 10) (tooLow (numberOf d)))
     (row _ (read UnderRange) (row _ (read OverRange) (parsed-measured (numberOf d))))
@@ -296,7 +295,7 @@ six false false false false false true = refl
 six false false false false false false = refl
 
 error-number : (d : List ℕ) → Numbered (errorReply d) (pick (not (errorText d)) 10 0)
-unfolding errorReply errorText errorBytes bytes
+unfolding errorReply errorText errorBytes
 error-number d =
     to (six _ _ _ _ _ _) (row _ (read (Error error.Length)) (row _ (read (Error error.Logic)) (row _ (read (Error error.NoDef)) (row _ (read (Error error.Syntax))
     (row _ (read (Error error.Range)) (row _ (read (Error error.Error1)) (refused 10 refl)))))))

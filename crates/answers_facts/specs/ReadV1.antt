@@ -6,6 +6,7 @@ use Prim.Native.Nat.{ℕ}
 use lib.Dec.{ltb, leb}
 use Rattle.buffer.specs.First.{_⇒_, first}
 use Rattle.buffer.specs.Byte.{at, within, sameText, numeral}
+use Rattle.buffer.specs.Quoted.{bytes}
 use Rattle.frames.specs.Frame.{wrongSum, wrongAddress, dataFrom}
 use Rattle.error_texts.specs.declared.ErrorText.the-variants.{Logic, NoDef, Range}
 use Rattle.settings.specs.Limits.{isFactor}
@@ -27,7 +28,7 @@ isRead (Refused k) = false
 
 -- what `M` may send besides a number: the error `1`, `000000` and `999999`
 unfoldable pub special : List ℕ → Bool
-special d = sameText d (49 ∷ []) || sameText d (48 ∷ 48 ∷ 48 ∷ 48 ∷ 48 ∷ 48 ∷ []) || sameText d (57 ∷ 57 ∷ 57 ∷ 57 ∷ 57 ∷ 57 ∷ [])
+special d = sameText d (bytes "1") || sameText d (bytes "000000") || sameText d (bytes "999999")
 
 -- 10: not six digits, "a reading's mantissa below 1000", "a set reply not repeating the request"
 unfoldable pub badData : RequestV1 → List ℕ → Bool

@@ -5,6 +5,6 @@ use Prim.Native.String.{String, [], _∷_}
 use mathlib.Core.List as L
 
 -- a text's characters
-unfoldable pub bytes : String → L.List ℕ
+abbrev pub bytes : String → L.List ℕ
 bytes [] = L.[]
 bytes (c ∷ s) = L._∷_ (code c) (bytes s)

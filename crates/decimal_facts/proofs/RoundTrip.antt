@@ -11,7 +11,6 @@ use Rattle.decimal_text.proofs.Laws.{written-le}
 use Rattle.decimal_facts.proofs.Accepts.{form-reads, value-exactly}
 use Rattle.decimal_facts.proofs.Lemmas.Texts.{written, written-text, written-good, written-exactly, zero-reads, decimals, decimals-text, decimals-good, decimals-mean, decimals-count}
 use Rattle.decimal_facts.proofs.Value.{answers}
-use Rattle.buffer.specs.Quoted.{bytes}
 use Rattle.decimal_facts.specs.Theorems.{WrittenReads, WrittenLength, HundredthsRead, Examples}
 
 -- what is written reads back as the same number
@@ -31,5 +30,5 @@ hundredths-read negative h k =
 
 -- "973.4 is `9.734e2`, 1 is `1e0`"
 pub examples : Examples
-unfolding bytes numberOf parsedOf scanOf unsignedOf fractionOf exponentOf leading startsWith normalOf sizeOf pick within numeralFrom writtenOf signText pointed trimmed exponentText
+unfolding numberOf parsedOf scanOf unsignedOf fractionOf exponentOf leading startsWith normalOf sizeOf pick within numeralFrom writtenOf signText pointed trimmed exponentText
 examples = (refl, refl)

@@ -3,7 +3,6 @@ use mathlib.Core.Path.{refl}
 use native.Mathlib.Omega.{arith}
 use Rattle.buffer.specs.First.{pick}
 use Rattle.buffer.specs.Byte.{within, every, numeralFrom}
-use Rattle.buffer.specs.Quoted.{bytes}
 use Rattle.frames.specs.Checksum.{sumOf, checksumOf, endOf, closed}
 use Rattle.frames.specs.Frame.{isLetter, lengthFits, misshapen, wrongSum, wrongAddress, headV1, frameOf}
 use Rattle.frame_writer.specs.Written.{frameV1}
@@ -28,5 +27,5 @@ unfolding expectedV1 grantV1 factorNumber faultyPressure heldV1 pressureHeld rou
 start-cases = (refl, refl, refl, refl, refl)
 
 pub whole-way : WholeWay
-unfolding expectedV1 grantV1 faultyPressure heldV1 pressureHeld roundedV1 pick bytes frameV1 closed endOf checksumOf sumOf letterV1 dataV1 frameOf misshapen lengthFits isLetter within every wrongSum wrongAddress numeralFrom headV1 askV1 bareOf
+unfolding expectedV1 grantV1 faultyPressure heldV1 pressureHeld roundedV1 pick frameV1 closed endOf checksumOf sumOf letterV1 dataV1 frameOf misshapen lengthFits isLetter within every wrongSum wrongAddress numeralFrom headV1 askV1 bareOf
 whole-way = answer-read-v1 fresh 64 1 Measure asked fresh-sound refl (omega arith) refl refl refl

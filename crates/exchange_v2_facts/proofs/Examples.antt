@@ -4,7 +4,6 @@ use mathlib.Core.List.{[]}
 use native.Mathlib.Omega.{arith}
 use Rattle.buffer.specs.First.{pick}
 use Rattle.buffer.specs.Byte.{within, every, sameText}
-use Rattle.buffer.specs.Quoted.{bytes}
 use Rattle.frame_writer.specs.Written.{frameV2}
 use Rattle.error_texts.specs.Texts.{errorOf}
 use Rattle.frames_facts.proofs.ReadBack.{read-back-v2}
@@ -37,7 +36,7 @@ cathode-expected = refl
 
 -- the bytes of a request for MV ask for it
 asks-pressure : AskedBy 1 (request.Read MV) (frameV2 (headFor 1 (request.Read MV)) [])
-unfolding headFor accessOf commandIn commandText bytes within every askV2 askNamed askKnown isAccess lacksAccess commandOf findCommand sameText pick
+unfolding headFor accessOf commandIn commandText within every askV2 askNamed askKnown isAccess lacksAccess commandOf findCommand sameText pick
 asks-pressure =
     let w = read-back-v2 (headFor 1 (request.Read MV)) [] (record { address-in = refl; access-in = refl; first-in = refl; second-in = refl; bytes-in = refl; few = omega arith }) in
     record { frame = w .head; asks = rw (w .rest) }

@@ -3,6 +3,7 @@ use mathlib.Core.List.{List, [], _∷_}
 use Prim.Native.Nat.{ℕ}
 use lib.Dec.{eqb}
 use Rattle.buffer.specs.First.{_⇒_, first}
+use Rattle.buffer.specs.Quoted.{bytes}
 use Rattle.frames.specs.declared.HeadV1.{HeadV1}
 use Rattle.frames.specs.declared.HeadV2.{HeadV2}
 use Rattle.error_texts.specs.Texts.{errorBytes}
@@ -20,9 +21,9 @@ errorLetterV1 number letter = first (eqb number 8 ⇒ 78 ∷ eqb number 13 ⇒ 7
 unfoldable pub errorDataV1 : ℕ → List ℕ
 errorDataV1 number =
     first
-    (eqb number 8 ⇒ (79 ∷ 95 ∷ 68 ∷ 69 ∷ 70 ∷ [])
+    (eqb number 8 ⇒ bytes "O_DEF"
     ∷ eqb number 11 ⇒ errorBytes Range
-    ∷ eqb number 13 ⇒ (49 ∷ [])
+    ∷ eqb number 13 ⇒ bytes "1"
     ∷ [])
     (errorBytes Logic)
 

@@ -33,7 +33,7 @@ use Rattle.gauge_facts.proofs.Lemmas.Refuses.{RefusesV2, refuses-v2}
 use Rattle.gauge_facts.proofs.Lemmas.Asking.{asked-exactly}
 
 changes-is : (r : RequestV2) → changesCathode r ≡ (sameText (commandText (commandIn r)) (bytes "CC") && not (eqb (accessOf r) readCode))
-unfolding changesCathode commandText commandIn accessOf sameText bytes
+unfolding changesCathode commandText commandIn accessOf sameText
 changes-is (Read MV) = refl
 changes-is (Read T2) = refl
 changes-is (Read FN) = refl
@@ -68,7 +68,7 @@ changes-is (Set (Switch v)) = refl
 changes-is (Set (Stream v)) = refl
 
 faulty-is : (d : Readings) (r : RequestV2) → readsFaulty d r ≡ sensorFaulty d (accessOf r) (commandText (commandIn r))
-unfolding readsFaulty commandText commandIn accessOf sameText bytes pick
+unfolding readsFaulty commandText commandIn accessOf sameText pick
 faulty-is d (Read MV) = refl
 faulty-is d (Read T2) = refl
 faulty-is d (Read FN) = refl

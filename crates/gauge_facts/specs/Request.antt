@@ -1,10 +1,11 @@
 -- What document 01 asks of a request that is accepted: the memory lent, its frame, its data, and the rules on the gauge's state.
 use mathlib.Core.Path.{_≡_}
 use mathlib.Core.Bool.{true, false}
-use mathlib.Core.List.{List, [], _∷_}
+use mathlib.Core.List.{List, []}
 use Prim.Native.Nat.{ℕ, _≤_}
 use lib.ListN.{length}
 use Rattle.buffer.specs.Byte.{isDigit, every, numeral}
+use Rattle.buffer.specs.Quoted.{bytes}
 use Rattle.settings.specs.declared.Key.the-variants.{CC}
 use Rattle.settings.specs.declared.Setting.the-variants.{Factor}
 use Rattle.readings.specs.Reading.{faultyPressure, faultyTemperature}
@@ -67,8 +68,8 @@ SixDigits n d = (length d ≡ 6) × (every isDigit d ≡ true) × (numeral d ≡
 -- the data of a request: `M` and `U` have none, `C` and the unlock the digit 1, the writes six digits; "000000 mbar, 000001 Torr, 000002 hPa"
 abbrev pub DataForV1 : RequestV1 → List ℕ → Type 0
 DataForV1 Measure d = d ≡ []
-DataForV1 ReadFactor d = d ≡ 49 ∷ []
-DataForV1 Unlock d = d ≡ 49 ∷ []
+DataForV1 ReadFactor d = d ≡ bytes "1"
+DataForV1 Unlock d = d ≡ bytes "1"
 DataForV1 (SetFactor n) d = SixDigits n d
 DataForV1 ReadUnit d = d ≡ []
 DataForV1 (SetUnit u) d = SixDigits (unitCode u) d

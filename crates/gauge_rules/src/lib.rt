@@ -36,12 +36,12 @@ impl Gauge {
         ensures { λ r. ⌜ stateOf r ≡ settled (stateOf self) (held settings) ⌝ }
         ensures { λ r. ⌜ r .settings ≡ settings ⌝ }
     {
-        let unlocked = self.unlocked;
+        let lock = self.unlocked;
         let readings = self.readings;
         Gauge {
             settings,
             readings,
-            unlocked,
+            unlocked: lock,
         }
     }
 

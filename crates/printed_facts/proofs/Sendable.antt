@@ -6,7 +6,6 @@ use Prim.Native.Nat.{ℕ, _≤_}
 use native.Mathlib.Omega.{arith}
 use lib.ListN.{length}
 use Rattle.buffer.specs.Byte.{at, within, isDigit, Printed}
-use Rattle.buffer.specs.Quoted.{bytes}
 use Rattle.frames.specs.Frame.{isLetter}
 use Rattle.frame_writer.specs.Sendable.{SendableV2}
 use Rattle.settings.specs.declared.Key.the-variants.{DA, DU, C1, CM, CC, FC, ST, SM}
@@ -25,7 +24,7 @@ use Rattle.printed_facts.specs.Theorems.{DataV1Le, RequestSendableV2, Re
 
 -- the two characters of a command
 command-printed : (c : Command) → (within 32 126 (at (commandText c) 0) ≡ true) × (within 32 126 (at (commandText c) 1) ≡ true)
-unfolding commandText bytes within
+unfolding commandText within
 command-printed MV = (refl, refl)
 command-printed T2 = (refl, refl)
 command-printed FN = (refl, refl)

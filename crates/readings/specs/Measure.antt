@@ -4,6 +4,7 @@ use Prim.Native.Nat.{ℕ, _+_, _/_}
 use lib.Dec.{leb}
 use Rattle.buffer.specs.First.{_⇒_, first}
 use Rattle.buffer.specs.Byte.{digit, digits2, digits3}
+use Rattle.buffer.specs.Quoted.{bytes}
 use Rattle.decimal.specs.declared.Number.{Number}
 use Rattle.readings.specs.declared.Pressure.{Pressure}
 use Rattle.readings.specs.declared.Pressure.the-variants.{Measured, UnderRange, OverRange, Faulty}
@@ -27,4 +28,4 @@ unfoldable pub measureText : Pressure → List ℕ
 measureText (Measured n) = roundedText n
 measureText UnderRange = sixOf 0 0
 measureText OverRange = sixOf 9999 99
-measureText Faulty = 49 ∷ []
+measureText Faulty = bytes "1"

@@ -4,6 +4,7 @@ use mathlib.Core.List.{List, [], _∷_}
 use Prim.Native.Nat.{ℕ}
 use lib.Dec.{eqb}
 use Rattle.buffer.specs.First.{_⇒_, first}
+use Rattle.buffer.specs.Quoted.{bytes}
 use Rattle.decimal_text.specs.Written.{writtenOf, twoDecimals}
 use Rattle.error_texts.specs.Texts.{errorBytes}
 use Rattle.error_texts.specs.declared.ErrorText.the-variants.{Error1}
@@ -36,10 +37,10 @@ putReading r (FS v) = record { p0 = r .p0; p1 = r .p1; p2 = r .p2; p6 = r .p6; p
 
 -- `UR` and `OR`
 abbrev pub underText : List ℕ
-underText = 85 ∷ 82 ∷ []
+underText = bytes "UR"
 
 abbrev pub overText : List ℕ
-overText = 79 ∷ 82 ∷ []
+overText = bytes "OR"
 
 -- "A value is a number, `UR`, `OR` or `ERROR1`." "Pressures .. are sent as written"
 unfoldable pub pressureText : Pressure → List ℕ

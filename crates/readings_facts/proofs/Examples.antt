@@ -2,7 +2,6 @@
 use mathlib.Core.Path.{refl}
 use Rattle.buffer.specs.First.{pick}
 use Rattle.buffer.specs.Byte.{every, sameText}
-use Rattle.buffer.specs.Quoted.{bytes}
 use Rattle.decimal.specs.Exact.{units, sizeOf, normalOf}
 use Rattle.decimal.specs.Number.{plus, minus, belowOf, countedOf, hundredthsOf}
 use Rattle.readings.specs.Reading.{putReading}
@@ -23,5 +22,5 @@ all-shown = refl
 
 -- each pressure of source 0 is measured as the paper says
 pub all-measured : AllMeasured
-unfolding bytes benchOf pressureOf temperatureOf degreesOf pressureAt temperatureAt takes normalOf sizeOf units plus minus belowOf countedOf hundredthsOf every sameText pick putReading measureText roundedText sixOf
+unfolding benchOf pressureOf temperatureOf degreesOf pressureAt temperatureAt takes normalOf sizeOf units plus minus belowOf countedOf hundredthsOf every sameText pick putReading measureText roundedText sixOf
 all-measured = refl

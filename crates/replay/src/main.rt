@@ -15,10 +15,12 @@
 //   write2 LENT ADDRESS REQUEST        writes a typed V2 request:
 //     read COMMAND, restore COMMAND, DA N, DU UNIT, C1 HUNDREDTHS, CM N, CC N, FC N, ST D NUMBER, ST F NUMBER T NUMBER,
 //     SM MODE COUNT CODE CODE CODE CODE CODE CODE CODE
-//     where NUMBER is SIGN MANTISSA PLACE, the value SIGN MANTISSA * 10^(PLACE - 14)
+//     where NUMBER is SIGN MANTISSA PLACE, + or - and the value MANTISSA * 10^(PLACE - 14); UNIT is 0 mbar, 1 Torr, 2 hPa; MODE 0 or 4;
+//     CODE a source's digit, 8 for T2, 9 for T6. The first COUNT of the seven codes count
 //   write1 LENT ADDRESS REQUEST        a typed V1 request: M, C1, c1, c HUNDREDTHS, U, u UNIT
 //   writeopg LENT REQUEST              a typed OPG request: pressure N, unit, unit N, off, on SPECTRA GAS
-//     these print NUMBER LENGTH HEX, and `changed`, as `text` does
+//     these print NUMBER LENGTH HEX, and `changed`, as `text` does. A number is any that its type has: N, PLACE, CODE and GAS up to 255,
+//     C1 up to 65535, the others up to 4294967295, with as many digits at most
 // Any other line, and one of more than 65536 bytes, changes nothing and prints `?`. What was played is printed before more input is waited for.
 // A failed read or write is named on standard error, and nothing more is played.
 use call_words::lines;

@@ -6,6 +6,7 @@ use lib.Dec.{eqb, ltb}
 use lib.ListN.{take, drop}
 use Rattle.buffer.specs.First.{Row, _⇒_, first}
 use Rattle.buffer.specs.Byte.{at, within, sameText, numeral}
+use Rattle.buffer.specs.Quoted.{bytes}
 use Rattle.frames.specs.Frame.{isLetter, misshapen, wrongSum, wrongAddress, addressOf, dataFrom}
 use Rattle.error_texts.specs.Texts.{errorBytes}
 use Rattle.error_texts.specs.declared.ErrorText.{ErrorText}
@@ -44,9 +45,9 @@ pressureV1 d =
 unfoldable pub measureV1 : List ℕ → ReadV1
 measureV1 d =
     first
-    (sameText d (49 ∷ []) ⇒ Read (Error Error1)
-    ∷ sameText d (48 ∷ 48 ∷ 48 ∷ 48 ∷ 48 ∷ 48 ∷ []) ⇒ Read UnderRange
-    ∷ sameText d (57 ∷ 57 ∷ 57 ∷ 57 ∷ 57 ∷ 57 ∷ []) ⇒ Read OverRange
+    (sameText d (bytes "1") ⇒ Read (Error Error1)
+    ∷ sameText d (bytes "000000") ⇒ Read UnderRange
+    ∷ sameText d (bytes "999999") ⇒ Read OverRange
     ∷ [])
     (pressureV1 d)
 

@@ -1,7 +1,8 @@
 -- Document 01, "Settings and readings, V2" and "V1 on the same settings": what typed requests are sent as.
-use mathlib.Core.List.{List, [], _∷_, _++_}
+use mathlib.Core.List.{List, [], _++_}
 use Prim.Native.Nat.{ℕ, _/_}
 use Rattle.buffer.specs.Byte.{at, digits3}
+use Rattle.buffer.specs.Quoted.{bytes}
 use Rattle.frames.specs.declared.HeadV1.{HeadV1}
 use Rattle.frames.specs.declared.HeadV2.{HeadV2}
 use Rattle.settings.specs.Settings.{keyOf, factory, putOf}
@@ -55,8 +56,8 @@ letterV1 (SetUnit u) = 117
 -- no data with `M` and `U`, the digit 1 with `C` and the unlock, six digits with the others
 unfoldable pub dataV1 : RequestV1 → List ℕ
 dataV1 Measure = []
-dataV1 ReadFactor = 49 ∷ []
-dataV1 Unlock = 49 ∷ []
+dataV1 ReadFactor = bytes "1"
+dataV1 Unlock = bytes "1"
 dataV1 (SetFactor n) = digits6 n
 dataV1 ReadUnit = []
 dataV1 (SetUnit u) = digits6 (unitCode u)

@@ -1,13 +1,12 @@
 -- Two bytes as the one number that `command_of` goes by: equal exactly where the two texts are.
-use mathlib.Core.Path.{_≡_, refl, sym, _∙_}
+use mathlib.Core.Path.{_≡_, refl, sym}
 use mathlib.Core.Bool.{Bool, true, false}
 use mathlib.Core.List.{[], _∷_}
 use Prim.Native.Nat.{ℕ, _+_, _*_, _<_}
 use native.Mathlib.Omega.{arith}
 use borrow.Author.Tests.{eq-eqb, ne-eqb, eqb-true, eqb-false}
 use lib.Dec.{eqb}
-use Rattle.buffer.specs.First.{_⇒_, first, pick}
-use Rattle.buffer.specs.Quoted.{bytes}
+use Rattle.buffer.specs.First.{_⇒_, first}
 use Rattle.buffer.specs.Byte.{sameText}
 use Rattle.settings.specs.declared.Key.the-variants.{DA, DU, C1, CM, CC, FC, ST, SM}
 use Rattle.requests.specs.Command.{commandText, findCommand, commandOf}
@@ -46,7 +45,7 @@ same-two a b x y h k = go (eqb b y) refl (eqb a x) refl
     go false p t q = rw p (sym (ne-eqb (two a b) (two x y) (λ e. eqb-false b y p (omega arith))))
 
 pub numbered-is : (a b : ℕ) → b < 256 → numbered a b ≡ commandOf a b
-unfolding numbered commandOf findCommand commandText bytes
+unfolding numbered commandOf findCommand commandText
 numbered-is a b h =
     rw (
       same-two a b 77 86 h (omega arith),

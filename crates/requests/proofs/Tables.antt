@@ -2,7 +2,6 @@
 use mathlib.Core.Path.{refl}
 use Rattle.buffer.specs.First.{pick}
 use Rattle.buffer.specs.Byte.{within, every, numeralFrom}
-use Rattle.buffer.specs.Quoted.{bytes}
 use Rattle.forms.specs.Forms.{digitData}
 use Rattle.requests.specs.Command.{canWrite, canRestore, lacksAccess}
 use Rattle.requests.specs.AskV1.{sixDigits, bareOf, digitOne, oneOf, unitAt, askV1}
@@ -13,5 +12,5 @@ unfolding lacksAccess canWrite canRestore pick
 access-table = refl
 
 pub letter-table : LetterTable
-unfolding bytes askV1 sixDigits bareOf digitOne oneOf unitAt digitData within every numeralFrom pick
+unfolding askV1 sixDigits bareOf digitOne oneOf unitAt digitData within every numeralFrom pick
 letter-table = refl

@@ -4,7 +4,6 @@ use mathlib.Core.List.{List, [], _∷_}
 use Prim.Native.Nat.{ℕ}
 use Rattle.buffer.specs.First.{pick}
 use Rattle.buffer.specs.Byte.{sameText}
-use Rattle.buffer.specs.Quoted.{bytes}
 use Rattle.buffer.proofs.Laws.{same-equal}
 use Rattle.buffer.proofs.Rules.{each}
 use Rattle.settings.specs.declared.Key.the-variants.{DA, DU, C1, CM, CC, FC, ST, SM}
@@ -27,7 +26,7 @@ spells (c ∷ cs) t = each (Spells t) (sameText t (commandText c)) (Known c) (fi
 
 -- each command is found by its text
 found : (c : Command) → findCommand commands (commandText c) ≡ Known c
-unfolding findCommand commandText sameText bytes pick
+unfolding findCommand commandText sameText pick
 found MV = refl
 found T2 = refl
 found FN = refl

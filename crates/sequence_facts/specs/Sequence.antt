@@ -10,6 +10,7 @@ use Rattle.buffer.specs.First.{pick}
 use Rattle.buffer.specs.Byte.{at, within, sameText}
 use Rattle.buffer.specs.Answer.{Sent}
 use Rattle.buffer.specs.declared.Written.{Written}
+use Rattle.buffer.specs.Quoted.{bytes}
 use Rattle.frames.specs.Frame.{dataFrom}
 use Rattle.decimal.specs.Number.{belowOf}
 use Rattle.decimal.specs.declared.Number.{Number}
@@ -117,7 +118,7 @@ Stands p (handed b) x = Handed b x
 
 -- the bytes of an unlock: the letter `c` with the data `1`
 unfoldable pub isUnlock : List ℕ → Bool
-isUnlock s = eqb (at s 3) 99 && sameText (dataFrom 4 s) (49 ∷ [])
+isUnlock s = eqb (at s 3) 99 && sameText (dataFrom 4 s) (bytes "1")
 
 -- a V1 request past check 5 says whether it was an accepted unlock; nothing else says anything
 unfoldable pub saysUnlock : Exchange → Option Bool

@@ -3,6 +3,7 @@ use mathlib.Core.Bool.{Bool, false, cond}
 use mathlib.Core.List.{List, [], _∷_, _++_}
 use Prim.Native.Nat.{ℕ}
 use Rattle.buffer.specs.Byte.{digit, digits3}
+use Rattle.buffer.specs.Quoted.{bytes}
 use Rattle.decimal_text.specs.Written.{writtenOf, twoDecimals}
 use Rattle.sources.specs.Source.{listText}
 use Rattle.settings.specs.declared.PressureUnit.{PressureUnit}
@@ -15,9 +16,9 @@ use Rattle.settings.specs.Settings.{Held}
 
 -- `mbar`, `Torr`, `hPa`
 unfoldable pub unitText : PressureUnit → List ℕ
-unitText Mbar = 109 ∷ 98 ∷ 97 ∷ 114 ∷ []
-unitText Torr = 84 ∷ 111 ∷ 114 ∷ 114 ∷ []
-unitText HPa = 104 ∷ 80 ∷ 97 ∷ []
+unitText Mbar = bytes "mbar"
+unitText Torr = bytes "Torr"
+unitText HPa = bytes "hPa"
 
 -- "`D` number, or `F` number `T` number"
 unfoldable pub transitionText : Transition → List ℕ

@@ -7,6 +7,7 @@ use lib.Dec.{eqb}
 use lib.ListN.{length, take}
 use Rattle.buffer.specs.First.{_⇒_, first, pick}
 use Rattle.buffer.specs.Byte.{at, within, isDigit, every, sameText, digit}
+use Rattle.buffer.specs.Quoted.{bytes}
 use Rattle.sources.specs.declared.Source.{Source}
 use Rattle.sources.specs.declared.Source.the-variants.{Known, Unknown, Malformed}
 use Rattle.sources.specs.declared.Sources.{Sources}
@@ -26,7 +27,7 @@ mostEntries = 7
 
 -- the text of a source's code
 unfoldable pub sourceText : ℕ → List ℕ
-sourceText c = first (eqb c 8 ⇒ (84 ∷ 50 ∷ []) ∷ eqb c 9 ⇒ (84 ∷ 54 ∷ []) ∷ []) (digit c ∷ [])
+sourceText c = first (eqb c 8 ⇒ bytes "T2" ∷ eqb c 9 ⇒ bytes "T6" ∷ []) (digit c ∷ [])
 
 -- "one or two digits, or `T` and a digit"
 unfoldable pub isSource : List ℕ → Bool

@@ -8,7 +8,6 @@ use denote.Enum.Declared.{tagOf}
 use Rattle.sources.specs.declared.Source.{Source}
 use Rattle.sources.specs.declared.Source.the-variants.{Known, Unknown, Malformed}
 use Rattle.sources.proofs.Source.{the-type}
-use Rattle.buffer.specs.Quoted.{bytes}
 use Rattle.buffer.proofs.Rules.{past, stop, flag}
 use Rattle.bench_words.specs.Words.{sourceAt, wordedOf}
 use Rattle.bench_words.specs.declared.Worded.the-variants.{Refused}
@@ -23,21 +22,21 @@ other Unknown value h = refl
 other Malformed value h = refl
 
 returns-2 : tie.Need-returns-2
-unfolding wordedOf bytes
+unfolding wordedOf
 returns-2 c =
     let e = c .before .before in
     past _ _ _ _ (flag _ _ _ (e .before .is-same .ensures) (e .if1 .left))
     (rw (← (c .before .source-of .ensures)) (other (c .before .source-of .result) _ (c .match .keys2)))
 
 returns-3 : tie.Need-returns-3
-unfolding wordedOf bytes sourceAt
+unfolding wordedOf sourceAt
 returns-3 c =
     let e = c .before .before .before .before .before in
     past _ _ _ _ (flag _ _ _ (e .before .is-same .ensures) (e .if1 .left))
     (rw (← (c .before .before .before .before .source-of .ensures), c .before .before .code .given .1) (c .value-at .ensures))
 
 pub read-setting-spec : {M : Type 1} → statement M
-unfolding wordedOf bytes
+unfolding wordedOf
 read-setting-spec =
     tie.close
     (tie.spec

@@ -7,7 +7,6 @@ use Prim.Native.Nat.{ℕ, _+_, _≤_}
 use native.Mathlib.Omega.{arith}
 use lib.ListN.{length, length-append}
 use Rattle.buffer.specs.Byte.{at, within, isDigit, every, Printed}
-use Rattle.buffer.specs.Quoted.{bytes}
 use Rattle.buffer.proofs.Laws.{within-true}
 use Rattle.decimal.specs.Form.{numberOf}
 use Rattle.decimal.specs.declared.Number.{Number}
@@ -143,7 +142,7 @@ data-fits (Set x) list d f = setting-fits x list d (f .0) (f .1) (f .2)
 
 -- a command is two characters
 pub command-two : (c : Command) → at (commandText c) 0 ∷ at (commandText c) 1 ∷ [] ≡ commandText c
-unfolding commandText bytes
+unfolding commandText
 command-two MV = refl
 command-two T2 = refl
 command-two FN = refl

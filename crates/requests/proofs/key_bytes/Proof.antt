@@ -1,12 +1,11 @@
 -- `requests::key_bytes` meets its contract.
 use borrow.Author.Needs.{needs}
-use Rattle.buffer.specs.Quoted.{bytes}
 use Rattle.requests.specs.Command.{commandText}
 use Rattle.requests.proofs.key_bytes.Statement.{statement}
 use Rattle.requests.proofs.key_bytes.Tie as tie
 
 pub key-bytes-spec : {M : Type 1} → statement M
-unfolding commandText bytes
+unfolding commandText
 key-bytes-spec =
     tie.close
     (tie.spec

@@ -10,7 +10,6 @@ use lib.Dec.{eqb}
 use lib.ListN.{length}
 use Rattle.buffer.specs.First.{pick}
 use Rattle.buffer.specs.Byte.{at, within, isDigit, every, sameText, numeral}
-use Rattle.buffer.specs.Quoted.{bytes}
 use Rattle.buffer.proofs.Rules.{each}
 use Rattle.frames.specs.Frame.{isLetter, dataFrom, headV2}
 use Rattle.settings.specs.Settings.{Held, factory, factoryOf, restoreOf}
@@ -207,11 +206,11 @@ abbrev Puts : ℕ → List ℕ → Setting → Key → Type 0
 Puts l d x key = forKey key x [] ≡ writtenV1 key l d
 
 factor-put : (d : List ℕ) (key : Key) → length d ≡ 6 → Puts 99 d (Factor (numeral d)) key
-unfolding forKey nameOf bytes sameText besideOf writtenV1 pick
+unfolding forKey nameOf sameText besideOf writtenV1 pick
 factor-put d key e = every-key (Puts 99 d (Factor (numeral d))) refl refl (rw e) refl refl refl refl refl key
 
 unit-put : (d : List ℕ) (u : PressureUnit) (key : Key) → unitNumbered (numeral d) ≡ some (PressureIn u, []) → Puts 117 d (PressureIn u) key
-unfolding forKey nameOf bytes sameText besideOf writtenV1 pick
+unfolding forKey nameOf sameText besideOf writtenV1 pick
 unit-put d u key e = every-key (Puts 117 d (PressureIn u)) refl (rw e) refl refl refl refl refl refl key
 
 module _ (m : State) (key : Key) (h : Held) (d : List ℕ) where

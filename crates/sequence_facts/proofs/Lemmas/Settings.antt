@@ -9,7 +9,6 @@ use lib.ListN.{length}
 use lib.Seq.{take-at, drop-append-add}
 use Rattle.buffer.specs.First.{pick}
 use Rattle.buffer.specs.Byte.{every, sameText, numeralFrom, numeral, digits3}
-use Rattle.buffer.specs.Quoted.{bytes}
 use Rattle.decimal.specs.Exact.{units}
 use Rattle.decimal.specs.Form.{numberOf}
 use Rattle.decimal.specs.declared.Number.{Number}
@@ -69,7 +68,7 @@ abbrev Puts : Held → Setting → List ℕ → Key → Type 0
 Puts h x list key = holding key (putOf h x list) ≡ orElse (forKey key x list) (holding key h)
 
 pub put-says : (key : Key) (h : Held) (x : Setting) (list : List ℕ) → Puts h x list key
-unfolding holding putOf orElse forKey nameOf bytes sameText besideOf pick
+unfolding holding putOf orElse forKey nameOf sameText besideOf pick
 put-says key h (Address v) list = every-key (Puts h (Address v) list) refl refl refl refl refl refl refl refl key
 put-says key h (PressureIn v) list = every-key (Puts h (PressureIn v) list) refl refl refl refl refl refl refl refl key
 put-says key h (Factor v) list = every-key (Puts h (Factor v) list) refl refl refl refl refl refl refl refl key
@@ -84,7 +83,7 @@ abbrev Restores : Key → Key → Type 0
 Restores k key = forKey key (factoryOf k) [] ≡ pick (sameText (nameOf k) (nameOf key)) (some (holding key factory)) none
 
 pub restore-says : (k key : Key) → Restores k key
-unfolding holding forKey factoryOf nameOf bytes sameText besideOf pick
+unfolding holding forKey factoryOf nameOf sameText besideOf pick
 restore-says DA key = every-key (Restores DA) refl refl refl refl refl refl refl refl key
 restore-says DU key = every-key (Restores DU) refl refl refl refl refl refl refl refl key
 restore-says C1 key = every-key (Restores C1) refl refl refl refl refl refl refl refl key
@@ -102,7 +101,7 @@ unfolding numeralFrom
 three-spell v h = omega (arith, h .0, h .1)
 
 unit-said : (u : PressureUnit) → unitNamed (unitText u) ≡ some (PressureIn u, [])
-unfolding unitNamed unitText bytes sameText pick
+unfolding unitNamed unitText sameText pick
 unit-said Mbar = refl
 unit-said Torr = refl
 unit-said HPa = refl
@@ -149,7 +148,7 @@ abbrev Wrote : List ℕ → Setting → Key → Type 0
 Wrote d x key = forKey key x (listIn (keyOf x) d) ≡ pick (sameText (nameOf (keyOf x)) (nameOf key)) (writtenV2 key d) none
 
 pub wrote : (key : Key) (d : List ℕ) (x : Setting) → Form d x → Sound x → Wrote d x key
-unfolding forKey nameOf bytes sameText besideOf writtenV2 numberIn pick
+unfolding forKey nameOf sameText besideOf writtenV2 numberIn pick
 wrote key d (Address v) f h = every-key (Wrote d (Address v)) (rw (f, three-spell v h)) refl refl refl refl refl refl refl key
 wrote key d (PressureIn u) f h = every-key (Wrote d (PressureIn u)) refl (rw (f, unit-said u)) refl refl refl refl refl refl key
 wrote key d (Factor k) f h = every-key (Wrote d (Factor k)) refl refl (rw (f .1, factor-said (f .0) k (f .3))) refl refl refl refl refl key

@@ -6,7 +6,6 @@ use Prim.Native.Nat.{ℕ, _+_, _*_, _/_, _%_, _<_, _≤_}
 use native.Mathlib.Omega.{arith}
 use Rattle.buffer.specs.First.{pick}
 use Rattle.buffer.specs.Byte.{at, within, every, isDigit, sameText, numeralFrom, numeral, digit, leading, startsWith}
-use Rattle.buffer.specs.Quoted.{bytes}
 use Rattle.buffer.proofs.Laws.{within-in}
 use Rattle.sources.specs.Entries.{sourceTexts, entriesOf, opens, entriesNumber, entriesList}
 use Rattle.settings.specs.Limits.{standard}
@@ -42,7 +41,7 @@ use Rattle.written_facts.proofs.Lemmas.Typed.{ListFits}
 
 -- a command's two characters name it
 pub named : (c : Command) → commandOf (at (commandText c) 0) (at (commandText c) 1) ≡ Known c
-unfolding commandOf findCommand sameText commandText bytes pick
+unfolding commandOf findCommand sameText commandText pick
 named MV = refl
 named T2 = refl
 named FN = refl

@@ -13,9 +13,9 @@ ghost use Rattle.decimal.specs.Inner.{Scaled};
 // A number: mantissa * 10 ^ place, in 10^-14. A reader gives the canonical one of each value: a mantissa of six digits, the first not
 // zero, and place 0 to 18; zero is ZERO.
 pub struct Number {
-    pub negative: bool,
     pub mantissa: u32,
     pub place: u8,
+    pub negative: bool,
 }
 
 impl Number {

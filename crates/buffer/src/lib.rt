@@ -65,29 +65,33 @@ impl Text {
     };
 
     // The text and one character more. A full text stays as it is.
-    pub fn push(mut self, b: u8) -> Text
+    pub fn push(self, b: u8) -> Text
         ensures { λ r. ⌜ textOf r ≡ cut (textOf self ++ (b ∷ [])) ⌝ }
     {
-        let at = self.len;
-        if 24 <= at {
-            return self;
+        let mut bytes = self.bytes;
+        let mut len = self.len;
+        if len < 24 {
+            bytes[len] = b;
+            len += 1;
         }
-        self.bytes[at] = b;
-        self.len = at + 1;
-        self
+        Text { bytes, len }
     }
 
     // The text and then all of src, as far as it holds them.
     pub fn add(self, src: &[u8]) -> Text
         ensures { λ r. ⌜ textOf r ≡ cut (textOf self ++ now (src .entry)) ⌝ }
     {
-        let mut t = self;
+        let mut bytes = self.bytes;
+        let mut len = self.len;
         let mut i: usize = 0;
         while i < src.len() {
-            t = t.push(src[i]);
+            if len < 24 {
+                bytes[len] = src[i];
+                len += 1;
+            }
             i += 1;
         }
-        t
+        Text { bytes, len }
     }
 
     // The text and then another, as far as it holds them.

@@ -10,7 +10,7 @@ unfolding textOf cut
 push-spec =
     tie.close
     (tie.spec
-    (λ c. let t = c .before .args .t1 in full (t .bytes) (t .len) 24 (c .before .args .b) (search needs) (c .if1 .taken))
     (λ c. search needs)
     (λ c. search needs)
-    (λ c. let t = c .before .args .t1 in filled (t .bytes) (t .len) 24 (c .before .args .b) (search needs) (c .if1 .left)))
+    (λ c. let t = c .before .before .args .self in filled (t .bytes) (t .len) 24 (c .before .before .args .b) (search needs) (c .if1 .taken))
+    (λ c. let t = c .before .before .args .self in full (t .bytes) (t .len) 24 (c .before .before .args .b) (search needs) (c .if1 .left)))

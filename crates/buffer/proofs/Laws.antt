@@ -6,7 +6,7 @@ use Prim.Native.Nat.{ℕ, zero, suc, _+_, _-_, _*_, _^_, _<_, _≤_}
 use native.Mathlib.Nat.{add-zero, zero-add, add-suc, suc-add, pow-suc, pow-le-pow-right, sub-zero, zero-sub, suc-sub-suc}
 use native.Mathlib.Numerals.{add-one}
 use native.Mathlib.Omega.{arith}
-use borrow.Author.Tests.{le-leb, lt-leb, leb-true, eq-eqb, eqb-true}
+use borrow.Author.Tests.{le-leb, lt-leb, leb-true, eq-eqb, ne-eqb, eqb-true}
 use lib.Dec.{eqb, leb, eqb·zero-suc}
 use lib.ListN.{length, getD, set, drop, take, length-take, length-drop, drop-of-length-le, length-append}
 use lib.Seq.{sets, sets-eq, drop-cons, take-at, take-all, set-out, take-nil, take-suc-set}
@@ -165,6 +165,17 @@ starts-some b (x ∷ s) h = omega arith
 pub until-step : (b : ℕ) (s : List ℕ) (i : ℕ) → i < length s → untilOf b (drop i s) ≡ cond (eqb (getD s i 0) b) 0 (untilOf b (drop (i + 1) s) + 1)
 unfolding untilOf
 until-step b s i h = ap (untilOf b) (drop-step s i h)
+
+-- the first b does not stand before place i
+abbrev pub Passed : ℕ → List ℕ → ℕ → Type 0
+Passed b s i = (i ≤ length s) × (i + untilOf b (drop i s) ≡ untilOf b s)
+
+-- a byte that is not b is passed; k is the next place
+pub pass : (b : ℕ) (s : List ℕ) (i k : ℕ) → i < length s → (getD s i 0 ≡ b → ⊥) → k ≡ i + 1 → Passed b s i → Passed b s k
+pass b s i k h other e p =
+    let other : eqb (getD s i 0) b ≡ false = ne-eqb _ _ other in
+    let step = rw other at (until-step b s i h) in
+    rw e (omega arith, omega (arith, step))
 
 pub until-end : (b : ℕ) (s : List ℕ) (i : ℕ) → length s ≤ i → untilOf b (drop i s) ≡ 0
 unfolding untilOf

@@ -2,7 +2,7 @@
 ghost use mathlib.Core.Path.{_≡_};
 ghost use mathlib.Core.List.{[], _∷_, _++_};
 ghost use lib.ListN.{length, take, drop};
-ghost use Prim.Native.Nat.{_<_, _-_};
+ghost use Prim.Native.Nat.{_+_, _-_, _≤_};
 ghost use Rattle.buffer.specs.Answer.{Stored};
 ghost use Rattle.buffer.specs.Byte.{at, within, every, leading, startsWith, sameText, untilOf, numeral, wordOf};
 ghost use Rattle.buffer.specs.Text.{textOf, cut};
@@ -229,11 +229,34 @@ pub fn starts_with(s: &[u8], b: u8) -> bool
     s[0] == b
 }
 
+// A place that has no b before it, found four bytes at a time.
+fn passed_by_fours(s: &[u8], b: u8) -> usize
+    ensures { λ r. ⌜ (r ≤ length (now (s .entry))) × (r + untilOf b (drop r (now (s .entry))) ≡ untilOf b (now (s .entry))) ⌝ }
+{
+    let mut i: usize = 0;
+    while 4 <= s.len() - i {
+        if s[i] == b {
+            return i;
+        }
+        if s[i + 1] == b {
+            return i + 1;
+        }
+        if s[i + 2] == b {
+            return i + 2;
+        }
+        if s[i + 3] == b {
+            return i + 3;
+        }
+        i += 4;
+    }
+    i
+}
+
 // How many bytes stand before the first b, or the end.
 pub fn until(s: &[u8], b: u8) -> usize
     ensures { λ r. ⌜ r ≡ untilOf b (now (s .entry)) ⌝ }
 {
-    let mut i: usize = 0;
+    let mut i = passed_by_fours(s, b);
     while i < s.len() {
         if s[i] == b {
             return i;

@@ -270,12 +270,15 @@ fn with_source(t: buffer::Text, code: u8) -> buffer::Text
     ensures { λ r. ⌜ textOf r ≡ cut (textOf t ++ ((68 ∷ []) ++ sourceText code)) ⌝ }
 {
     if code == 8 {
-        return t.push(b'D').push(b'T').push(b'2');
+        let entry = [b'D', b'T', b'2'];
+        return t.add(&entry);
     }
     if code == 9 {
-        return t.push(b'D').push(b'T').push(b'6');
+        let entry = [b'D', b'T', b'6'];
+        return t.add(&entry);
     }
-    t.push(b'D').push(code % 10 + 48)
+    let entry = [b'D', code % 10 + 48];
+    t.add(&entry)
 }
 
 // The text t, then the text of a list.

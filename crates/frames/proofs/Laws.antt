@@ -5,15 +5,17 @@ use mathlib.Core.List.{List, [], _∷_}
 use Prim.Native.Nat.{ℕ, _+_, _-_, _*_, _<_, _≤_}
 use native.Mathlib.Omega.{arith}
 use borrow.Author.Tests.{le-leb, lt-leb, not-false}
-use lib.Dec.{leb}
+use lib.Dec.{leb, eqb}
 use lib.ListN.{length, getD, take, drop, length-take, drop-of-length-le}
 use lib.Seq.{take-all}
-use Rattle.buffer.specs.First.{pick}
+use Rattle.buffer.specs.First.{_⇒_, pick, first}
 use Rattle.buffer.specs.Byte.{at, within, isDigit, every, numeralFrom, numeral}
 use Rattle.buffer.proofs.Laws.{drop-step, within-true}
-use Rattle.buffer.proofs.Rules.{each, flag, unflag}
-use Rattle.frames.specs.Checksum.{sumOf}
-use Rattle.frames.specs.Frame.{isLetter, lengthFits, misshapen, wrongSum, wrongAddress, wrongLength}
+use Rattle.buffer.proofs.Rules.{each, flag, unflag, not-eqb, not-neqb}
+use Rattle.frames.specs.Checksum.{sumOf, checksumOf}
+use Rattle.frames.specs.Frame.{isLetter, body, sumByte, lastByte, lengthFits, misshapen, wrongSum, wrongAddress, wrongLength, headV1, headV2, frameOf}
+use Rattle.frames.specs.declared.Frame.{Frame}
+use Rattle.frames.specs.declared.Frame.the-variants.{Silent, V1, Length, V2}
 
 -- ---- the checksum
 
@@ -25,6 +27,30 @@ sum-step s i h = ap sumOf (drop-step s i h)
 pub sum-end : (s : List ℕ) (i : ℕ) → length s ≤ i → sumOf (drop i s) ≡ 0
 unfolding sumOf
 sum-end s i h = ap sumOf (drop-of-length-le s h)
+
+-- the checksum of bytes that are 32 to 126, 0 for others
+abbrev pub printedSum : List ℕ → ℕ
+printedSum s = first (every (within 32 126) s ⇒ checksumOf s ∷ []) 0
+
+pub not-printed : (s : List ℕ) (k : ℕ) → k ≡ printedSum s → k ≡ 0 → not (every (within 32 126) s) ≡ true
+unfolding checksumOf
+not-printed s k e z = each (λ (x : ℕ). 0 ≡ x → not (every (within 32 126) s) ≡ true) _ _ _ (λ _ h. absurd (omega arith)) (λ t _. ap not t) (sym z ∙ e)
+
+pub printed : (s : List ℕ) (k : ℕ) → k ≡ printedSum s → (k ≡ 0 → ⊥) → (not (every (within 32 126) s) ≡ false) × (k ≡ checksumOf s)
+printed s k e h = each (λ (x : ℕ). k ≡ x → (not (every (within 32 126) s) ≡ false) × (k ≡ checksumOf s)) _ _ _ (λ t c. (ap not t, c)) (λ _ z. absurd (h z)) e
+
+pub all-printed : (s : List ℕ) (k : ℕ) → k ≡ printedSum s → (k ≡ 0 → ⊥) → not (every (within 32 126) s) ≡ false
+all-printed s k e h = printed s k e h .0
+
+pub sum-differs : (s : List ℕ) (k : ℕ) → k ≡ printedSum (body s) → (k ≡ 0 → ⊥) → (sumByte s ≡ k → ⊥) → wrongSum s ≡ true
+unfolding wrongSum
+sum-differs s k e h d = rw (← (printed (body s) k e h .1)) (not-neqb _ _ d)
+
+pub sum-agrees : (s : List ℕ) (k : ℕ) → k ≡ printedSum (body s) → (k ≡ 0 → ⊥) → sumByte s ≡ k → wrongSum s ≡ false
+unfolding wrongSum
+sum-agrees s k e h a = rw (← (printed (body s) k e h .1)) (not-eqb _ _ a)
+
+pub ruleset sums = (not-printed, all-printed, sum-differs, sum-agrees)
 
 -- ---- limits
 
@@ -62,10 +88,6 @@ fits s =
     (λ l e. record { six = within-true 6 12 (length s) e .0; ten = λ k. absurd (true≢false (sym l ∙ k)) })
     (λ _ e. absurd (false≢true e)))
 
-pub shaped : (s : List ℕ) → misshapen s ≡ false → Enough s
-unfolding misshapen
-shaped s = each (λ (x : Bool). x ≡ false → Enough s) _ _ _ (λ _ e. absurd (true≢false e)) (λ t _. fits s (not-false _ t))
-
 pub too-short : (s : List ℕ) → length s < 6 → false ≡ lengthFits s
 unfolding lengthFits
 too-short s h =
@@ -83,6 +105,53 @@ too-short s h =
     _
     (λ _. sym (lt-leb 6 (length s) (omega arith)) ∙ out-low 6 12 (length s) (omega arith))
     (λ _. refl))
+
+-- ---- refusals
+
+-- the first of 2, 3 and 4 that applies
+abbrev pub refusals : List ℕ → ℕ
+refusals s = first (misshapen s ⇒ 2 ∷ wrongSum s ⇒ 3 ∷ wrongAddress s ⇒ 4 ∷ []) 0
+
+-- with the tests of the shape in their order
+pub refusal-rows : (s : List ℕ)
+    → refusals s
+    ≡ first
+    (not (lengthFits s) ⇒ 2
+    ∷ not (eqb (lastByte s) 13) ⇒ 2
+    ∷ eqb (sumByte s) 13 ⇒ 2
+    ∷ not (every (within 32 126) (body s)) ⇒ 2
+    ∷ wrongSum s ⇒ 3
+    ∷ wrongAddress s ⇒ 4
+    ∷ [])
+    0
+unfolding misshapen pick
+refusal-rows s =
+    go (not (lengthFits s)) (not (eqb (lastByte s) 13)) (eqb (sumByte s) 13) (not (every (within 32 126) (body s))) (first (wrongSum s ⇒ 3 ∷ wrongAddress s ⇒ 4 ∷ []) 0)
+  where
+    go : (a b c d : Bool) (n : ℕ) → pick (pick a true (pick b true (pick c true (pick d true false)))) 2 n ≡ pick a 2 (pick b 2 (pick c 2 (pick d 2 n)))
+    go true b c d n = refl
+    go false true c d n = refl
+    go false false true d n = refl
+    go false false false true n = refl
+    go false false false false n = refl
+
+-- bytes that are not refused
+pub shaped : (s : List ℕ) (k : ℕ) → k ≡ refusals s → k ≡ 0 → Enough s
+shaped s k e z =
+    each (λ (x : ℕ). 0 ≡ x → Enough s) _ _ _ (λ _ h. absurd (omega arith)) (λ t _. fits s (not-false _ t)) (sym z ∙ e ∙ refusal-rows s)
+
+-- bytes as a frame, with one row for the refusals
+pub frame-rows : (s : List ℕ) (k : ℕ) → k ≡ refusals s
+    → frameOf s ≡ first (not (eqb k 0) ⇒ Silent k ∷ isLetter (at s 3) ⇒ V1 (headV1 s) ∷ wrongLength s ⇒ Length (headV2 s) ∷ []) (V2 (headV2 s))
+unfolding frameOf pick
+frame-rows s k e = rw e (go (misshapen s) (wrongSum s) (wrongAddress s) (first (isLetter (at s 3) ⇒ V1 (headV1 s) ∷ wrongLength s ⇒ Length (headV2 s) ∷ []) (V2 (headV2 s))))
+  where
+    go : (a b c : Bool) (f : Frame)
+        → pick a (Silent 2) (pick b (Silent 3) (pick c (Silent 4) f)) ≡ pick (not (eqb (pick a 2 (pick b 3 (pick c 4 0))) 0)) (Silent (pick a 2 (pick b 3 (pick c 4 0)))) f
+    go true b c f = refl
+    go false true c f = refl
+    go false false true f = refl
+    go false false false f = refl
 
 -- a last row that gives true, with false otherwise, is its test
 pub last-row : (t : Bool) → t ≡ pick t true false
@@ -115,17 +184,8 @@ letter-flag b v r = flag (isLetter b) v r
 pub fits-unflag : (s : List ℕ) (v r : Bool) → r ≡ lengthFits s → not r ≡ v → not (lengthFits s) ≡ v
 fits-unflag s v r = unflag (lengthFits s) v r
 
-pub every-unflag : (low high : ℕ) (s : List ℕ) (v r : Bool) → r ≡ every (within low high) s → not r ≡ v → not (every (within low high) s) ≡ v
-every-unflag low high s v r = unflag (every (within low high) s) v r
-
 pub digits-unflag : (s : List ℕ) (v r : Bool) → r ≡ every (within 48 57) s → not r ≡ v → not (every isDigit s) ≡ v
 digits-unflag s v r = unflag (every isDigit s) v r
-
-pub shape-flag : (s : List ℕ) (v r : Bool) → r ≡ misshapen s → r ≡ v → misshapen s ≡ v
-shape-flag s v r = flag (misshapen s) v r
-
-pub sum-flag : (s : List ℕ) (v r : Bool) → r ≡ wrongSum s → r ≡ v → wrongSum s ≡ v
-sum-flag s v r = flag (wrongSum s) v r
 
 pub address-flag : (s : List ℕ) (v r : Bool) → r ≡ wrongAddress s → r ≡ v → wrongAddress s ≡ v
 address-flag s v r = flag (wrongAddress s) v r
@@ -133,4 +193,4 @@ address-flag s v r = flag (wrongAddress s) v r
 pub length-flag : (s : List ℕ) (v r : Bool) → r ≡ wrongLength s → r ≡ v → wrongLength s ≡ v
 length-flag s v r = flag (wrongLength s) v r
 
-pub ruleset flags = (within-flag, letter-flag, fits-unflag, every-unflag, digits-unflag, shape-flag, sum-flag, address-flag, length-flag)
+pub ruleset flags = (within-flag, letter-flag, fits-unflag, digits-unflag, address-flag, length-flag)

@@ -1,8 +1,11 @@
 // Text frames of the protocols V1 and V2 (document 01, "Text frames"): the checksum, and any bytes read as a
 // frame.
 ghost use mathlib.Core.Path.{_≡_};
-ghost use Prim.Native.Nat.{_+_, _≤_};
+ghost use mathlib.Core.List.{[], _∷_};
+ghost use Prim.Native.Nat.{_≤_};
 ghost use lib.ListN.{length};
+ghost use Rattle.buffer.specs.First.{_⇒_, first};
+ghost use Rattle.buffer.specs.Byte.{within, every};
 ghost use Rattle.frames.specs.Checksum.{checksumOf};
 ghost use Rattle.frames.specs.Frame.{isLetter, dataFrom, lengthFits, misshapen, wrongSum, wrongAddress, wrongLength, frameOf};
 
@@ -72,25 +75,6 @@ fn length_fits(s: &[u8]) -> bool
     false
 }
 
-fn is_misshapen(s: &[u8]) -> bool
-    ensures { λ r. ⌜ r ≡ misshapen (now (s .entry)) ⌝ }
-{
-    if !length_fits(s) {
-        return true;
-    }
-    let n = s.len();
-    if s[n - 1] != 13 {
-        return true;
-    }
-    if s[n - 2] == 13 {
-        return true;
-    }
-    if !buffer::all_within(&s[..n - 2], 32, 126) {
-        return true;
-    }
-    false
-}
-
 // The data of a frame of the form: from byte `start` to before the checksum. Empty where the bytes are too few.
 pub fn data_from<'a>(s: &'a [u8], start: usize) -> &'a [u8]
     ensures { λ r. ⌜ now r ≡ dataFrom start (now (s .entry)) ⌝ }
@@ -119,12 +103,21 @@ pub fn data_v2<'a>(s: &'a [u8]) -> &'a [u8]
     data_from(s, 8)
 }
 
-fn has_wrong_sum(s: &[u8]) -> bool
-    requires { ⌜ 2 ≤ length (now s) ⌝ }
-    ensures { λ r. ⌜ r ≡ wrongSum (now (s .entry)) ⌝ }
+// The checksum of s, or 0 where a byte of s lies outside 32 to 126. (No checksum is 0.)
+fn printed_sum(s: &[u8]) -> u8
+    ensures { λ r. ⌜ r ≡ first (every (within 32 126) (now (s .entry)) ⇒ checksumOf (now (s .entry)) ∷ []) 0 ⌝ }
 {
-    let n = s.len();
-    s[n - 2] != checksum(&s[..n - 2])
+    let mut sum: u8 = 0;
+    let mut i: usize = 0;
+    while i < s.len() {
+        let b = s[i];
+        if !buffer::is_within(b, 32, 126) {
+            return 0;
+        }
+        sum = std::num::wrapping_add_u8(sum, b);
+        i += 1;
+    }
+    sum % 64 + 64
 }
 
 fn has_wrong_address(s: &[u8]) -> bool
@@ -135,6 +128,34 @@ fn has_wrong_address(s: &[u8]) -> bool
         return true;
     }
     buffer::numeral_of(&s[..3]) == 0
+}
+
+// The first of 2 SHAPE, 3 CHECKSUM and 4 ADDRESS that applies, or 0. The bytes before the checksum are read once.
+fn refusal(s: &[u8]) -> u8
+    ensures { λ r. ⌜ r ≡ first (misshapen (now (s .entry)) ⇒ 2 ∷ wrongSum (now (s .entry)) ⇒ 3 ∷ wrongAddress (now (s .entry)) ⇒ 4 ∷ []) 0 ⌝ }
+{
+    if !length_fits(s) {
+        return 2;
+    }
+    let n = s.len();
+    if s[n - 1] != 13 {
+        return 2;
+    }
+    let given = s[n - 2];
+    if given == 13 {
+        return 2;
+    }
+    let sum = printed_sum(&s[..n - 2]);
+    if sum == 0 {
+        return 2;
+    }
+    if given != sum {
+        return 3;
+    }
+    if has_wrong_address(s) {
+        return 4;
+    }
+    0
 }
 
 fn has_wrong_length(s: &[u8]) -> bool
@@ -152,14 +173,9 @@ fn has_wrong_length(s: &[u8]) -> bool
 pub fn read_frame(s: &[u8]) -> Frame
     ensures { λ r. ⌜ r ≡ frameOf (now (s .entry)) ⌝ }
 {
-    if is_misshapen(s) {
-        return Frame::Silent(2);
-    }
-    if has_wrong_sum(s) {
-        return Frame::Silent(3);
-    }
-    if has_wrong_address(s) {
-        return Frame::Silent(4);
+    let number = refusal(s);
+    if number != 0 {
+        return Frame::Silent(number);
     }
     let address = buffer::numeral_of(&s[..3]) as u16;
     let b = s[3];

@@ -1,11 +1,12 @@
 // The text gauge's state, and the rules by which typed V2 requests are decided and entered (document 01, "Settings and readings, V2").
 ghost use mathlib.Core.Path.{_≡_};
 ghost use mathlib.Core.Bool.{_&&_};
-ghost use mathlib.Core.List.{[]};
+ghost use mathlib.Core.List.{List, []};
+ghost use Prim.Native.Nat.{ℕ};
 ghost use lib.Dec.{eqb};
 ghost use Rattle.buffer.specs.Text.{textOf};
 ghost use Rattle.sources.specs.Source.{listOf, Counted};
-ghost use Rattle.settings.specs.Settings.{held};
+ghost use Rattle.settings.specs.Settings.{Held, held, changedBy};
 ghost use Rattle.requests.specs.declared.Command.{Command};
 ghost use Rattle.requests.specs.declared.RequestV2.{RequestV2};
 ghost use Rattle.gauge_rules.specs.State.{stateOf, settled, measured, unlockedAs, fresh};
@@ -234,32 +235,38 @@ pub fn answer_code(request: requests::RequestV2) -> u8
     }
 }
 
-// The settings with a command restored, where it is a setting.
-fn restored(s: settings::Settings, command: requests::Command) -> settings::Settings
-    ensures { λ r. ⌜ held r ≡ enterV2 (held s) (RequestV2.Restore command) [] ⌝ }
-    ensures { λ r. ⌜ (Counted (s .sources) → Counted (r .sources)) ⌝ }
+// What a restore of a command puts: the factory value, where it is a setting.
+fn restores(command: requests::Command) -> settings::Put
+    ensures { λ r. ⌜ ((h : Held) (list : List ℕ) → changedBy h r [] ≡ enterV2 h (RequestV2.Restore command) list) ⌝ }
 {
     match command {
-        requests::Command::MV => s,
-        requests::Command::T2 => s,
-        requests::Command::FN => s,
-        requests::Command::FS => s,
-        requests::Command::Of(key) => s.restored(key),
+        requests::Command::MV => settings::Put::Nothing,
+        requests::Command::T2 => settings::Put::Nothing,
+        requests::Command::FN => settings::Put::Nothing,
+        requests::Command::FS => settings::Put::Nothing,
+        requests::Command::Of(key) => {
+            settings::Put::Value(settings::Settings::factory_value(key))
+        }
     }
 }
 
-// The settings after an accepted V2 request.
-pub fn enter_v2(
-    s: settings::Settings,
-    request: requests::RequestV2,
-    list: sources::Sources,
-) -> settings::Settings
-    ensures { λ r. ⌜ held r ≡ enterV2 (held s) request (listOf list) ⌝ }
-    ensures { λ r. ⌜ (Counted (s .sources) → Counted list → Counted (r .sources)) ⌝ }
+// What an accepted V2 request changes.
+pub fn change_v2(request: requests::RequestV2, list: sources::Sources) -> settings::Change
+    ensures { λ r. ⌜ ((h : Held) → changedBy h (r .put) (listOf (r .sources)) ≡ enterV2 h request (listOf list)) ⌝ }
+    ensures { λ r. ⌜ (Counted list → Counted (r .sources)) ⌝ }
 {
     match request {
-        requests::RequestV2::Read(_) => s,
-        requests::RequestV2::Restore(command) => restored(s, command),
-        requests::RequestV2::Set(setting) => s.with(setting, list),
+        requests::RequestV2::Read(_) => settings::Change {
+            sources: sources::Sources::NONE,
+            put: settings::Put::Nothing,
+        },
+        requests::RequestV2::Restore(command) => settings::Change {
+            sources: sources::Sources::NONE,
+            put: restores(command),
+        },
+        requests::RequestV2::Set(setting) => settings::Change {
+            sources: list,
+            put: settings::Put::Value(setting),
+        },
     }
 }

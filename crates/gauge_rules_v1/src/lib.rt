@@ -1,11 +1,11 @@
 // The rules by which typed V1 requests are decided and entered (document 01, "V1 on the same settings").
 ghost use mathlib.Core.Path.{_≡_};
-ghost use mathlib.Core.List.{[], _∷_};
+ghost use mathlib.Core.List.{List, [], _∷_};
+ghost use Prim.Native.Nat.{ℕ};
 ghost use lib.Dec.{eqb};
 ghost use Rattle.buffer.specs.First.{_⇒_, first};
 ghost use Rattle.buffer.specs.Text.{textOf};
-ghost use Rattle.sources.specs.Source.{Counted};
-ghost use Rattle.settings.specs.Settings.{held, putOf};
+ghost use Rattle.settings.specs.Settings.{Held, held, putOf, changedBy};
 ghost use Rattle.settings.specs.declared.Setting.{Setting};
 ghost use Rattle.gauge_rules.specs.State.{stateOf};
 ghost use Rattle.gauge_rules_v1.specs.RulesV1.{factorNumber, grantV1, textV1, repeats, unlocks, settingsV1};
@@ -90,32 +90,28 @@ pub fn unlocks_gauge(request: requests::RequestV1) -> bool
     }
 }
 
-// The settings after a `c` with six digits.
-fn enter_factor(s: settings::Settings, unlocked: bool, n: u32) -> settings::Settings
-    ensures { λ r. ⌜ held r ≡ first (eqb (factorNumber unlocked n) 0 ⇒ putOf (held s) (Setting.Factor n) [] ∷ []) (held s) ⌝ }
-    ensures { λ r. ⌜ (Counted (s .sources) → Counted (r .sources)) ⌝ }
+// What a `c` with six digits puts.
+fn put_factor(unlocked: bool, n: u32) -> settings::Put
+    ensures { λ r. ⌜ ((h : Held) (list : List ℕ) → changedBy h r list ≡ first (eqb (factorNumber unlocked n) 0 ⇒ putOf h (Setting.Factor n) [] ∷ []) h) ⌝ }
 {
     if factor_number(unlocked, n) != 0 {
-        return s;
+        return settings::Put::Nothing;
     }
-    s.with(settings::Setting::Factor(n as u16), sources::Sources::NONE)
+    settings::Put::Value(settings::Setting::Factor(n as u16))
 }
 
-// The settings after a V1 request: an accepted one enters, a refused one changes nothing.
-pub fn enter_v1(g: gauge_rules::Gauge, request: requests::RequestV1) -> settings::Settings
-    ensures { λ r. ⌜ held r ≡ settingsV1 (stateOf g) request ⌝ }
-    ensures { λ r. ⌜ (Counted (g .settings .sources) → Counted (r .sources)) ⌝ }
+// What a V1 request puts: an accepted one enters, a refused one changes nothing.
+pub fn put_v1(g: gauge_rules::Gauge, request: requests::RequestV1) -> settings::Put
+    ensures { λ r. ⌜ ((list : List ℕ) → changedBy (held (g .settings)) r list ≡ settingsV1 (stateOf g) request) ⌝ }
 {
-    let s = g.settings;
     match request {
-        requests::RequestV1::Measure => s,
-        requests::RequestV1::ReadFactor => s,
-        requests::RequestV1::ReadUnit => s,
-        requests::RequestV1::Unlock => s,
-        requests::RequestV1::SetFactor(n) => enter_factor(s, g.unlocked, n),
-        requests::RequestV1::SetUnit(unit) => s.with(
-            settings::Setting::PressureIn(unit),
-            sources::Sources::NONE,
-        ),
+        requests::RequestV1::Measure => settings::Put::Nothing,
+        requests::RequestV1::ReadFactor => settings::Put::Nothing,
+        requests::RequestV1::ReadUnit => settings::Put::Nothing,
+        requests::RequestV1::Unlock => settings::Put::Nothing,
+        requests::RequestV1::SetFactor(n) => put_factor(g.unlocked, n),
+        requests::RequestV1::SetUnit(unit) => {
+            settings::Put::Value(settings::Setting::PressureIn(unit))
+        }
     }
 }

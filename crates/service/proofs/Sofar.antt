@@ -1,5 +1,6 @@
 -- The loop of `serve` on plain values: what holds of the requests answered so far, how one more keeps it, and what it gives at the end.
 use mathlib.Core.Path.{_≡_, refl, sym, ap, subst, _∙_}
+use mathlib.Core.Bool.{Bool}
 use mathlib.Core.List.{List, [], _∷_, _++_, append-assoc, append-nil}
 use Prim.Native.Nat.{ℕ, _+_, _-_, _<_, _≤_}
 use native.Mathlib.Nat.{zero-add, add-zero, sub-zero, add-assoc, sub-add-eq}
@@ -11,11 +12,15 @@ use Rattle.buffer.specs.First.{pick}
 use Rattle.buffer.specs.Byte.{untilOf}
 use Rattle.buffer.specs.Answer.{over, Sent}
 use Rattle.buffer.proofs.Laws.{part-rest}
+use Rattle.sources.specs.Source.{listOf}
+use Rattle.settings.specs.Settings.{Held, held, changedBy}
+use Rattle.settings.specs.declared.Settings.{Settings}
+use Rattle.readings.specs.declared.Readings.{Readings}
 use Rattle.gauge_rules.specs.State.{State, stateOf}
 use Rattle.gauge_rules.specs.declared.Gauge.{Gauge}
 use Rattle.gauge_table.specs.After.{answerOf, nextOf}
-use Rattle.text_gauge.specs.Answer.{Answers}
-use Rattle.text_gauge.specs.declared.Answered.{Answered}
+use Rattle.text_gauge.specs.Answer.{Decides, decidedState}
+use Rattle.text_gauge.specs.declared.Decided.{Decided}
 use Rattle.service.specs.Split.{framesOf}
 use Rattle.service.specs.Served.{Service, nothing, then, serviceOf, Serves}
 use Rattle.service.proofs.Laws.{no-frame, one-frame}
@@ -103,20 +108,20 @@ reply-le before after reply e l =
 
 module _ (g₀ : State) (input out₀ : List ℕ) (g : State) (at used : ℕ) (out : List ℕ) (s : Sofar g₀ input out₀ g at used out) where
   -- one request more, where the memory lent is as it was at the start
-  one : (n : ℕ) (after : List ℕ) (r : Answered) → 64 ≤ length out₀ - used → n ≡ untilOf 13 (drop at input) → n < length (drop at input)
-      → Answers g (take (n + 1) (drop at input)) (drop used out₀) after r → length after ≡ length (drop used out₀)
-      → Sofar g₀ input out₀ (stateOf (r .gauge)) (at + (n + 1)) (used + r .written .len) (s .done ++ after)
+  one : (n : ℕ) (after : List ℕ) (r : Decided) → 64 ≤ length out₀ - used → n ≡ untilOf 13 (drop at input) → n < length (drop at input)
+      → Decides g (take (n + 1) (drop at input)) (drop used out₀) after r → length after ≡ length (drop used out₀)
+      → Sofar g₀ input out₀ (decidedState g r) (at + (n + 1)) (used + r .written .len) (s .done ++ after)
   one n after r room e k a long =
       let f = take (n + 1) (drop at input) in
       let reply = answerOf g (length out₀ - used) f .reply in
       let sent : Sent (drop used out₀) (answerOf g (length out₀ - used) f) after (r .written) = rw (length-drop used out₀) at (a .sent) in
-      let state : stateOf (r .gauge) ≡ nextOf g (length out₀ - used) f = rw (length-drop used out₀) at (a .state) in
+      let state : decidedState g r ≡ nextOf g (length out₀ - used) f = rw (length-drop used out₀) at (a .state) in
       let size : length after ≡ length out₀ - used = long ∙ length-drop used out₀ in
       let fits : length reply ≤ length out₀ - used = rw (length-drop used out₀) at (reply-le (drop used out₀) after reply (sent .memory) long) in
       let memory : s .done ++ after ≡ over (s .done ++ reply) out₀
       = ap (λ (l : List ℕ). s .done ++ l) (sent .memory) ∙ ap (λ (i : ℕ). s .done ++ over reply (drop i out₀)) (s .used-is) ∙ over-over (s .done) reply out₀ in
       let rest : serviceOf (nextOf g (length out₀ - used) f) (length out₀ - used - length reply) (framesOf (drop (n + 1) (drop at input)))
-      ≡ serviceOf (stateOf (r .gauge)) (length out₀ - (used + r .written .len)) (framesOf (drop (at + (n + 1)) input))
+      ≡ serviceOf (decidedState g r) (length out₀ - (used + r .written .len)) (framesOf (drop (at + (n + 1)) input))
       = rw (state, sent .len, sub-add-eq, drop-drop (n + 1) at input) in
       record {
         done = s .done ++ reply;
@@ -133,10 +138,10 @@ module _ (g₀ : State) (input out₀ : List ℕ) (g : State) (at used : ℕ) (o
       }
 
   -- one request more, lent what is left of the memory
-  pub next : (n : ℕ) (part after : List ℕ) (r : Answered) → 64 ≤ length out - used → part ≡ drop at input → n ≡ untilOf 13 part → n < length input - at
-      → Answers g (take (at + n + 1 - at) (drop at input)) (take (length out - used) (drop used out)) after r
+  pub next : (n : ℕ) (part after : List ℕ) (r : Decided) → 64 ≤ length out - used → part ≡ drop at input → n ≡ untilOf 13 part → n < length input - at
+      → Decides g (take (at + n + 1 - at) (drop at input)) (take (length out - used) (drop used out)) after r
       → length after ≡ length (take (length out - used) (drop used out))
-      → Sofar g₀ input out₀ (stateOf (r .gauge)) (at + n + 1) (used + r .written .len) (take used out ++ (after ++ drop (length out - used) (drop used out)))
+      → Sofar g₀ input out₀ (decidedState g r) (at + n + 1) (used + r .written .len) (take used out ++ (after ++ drop (length out - used) (drop used out)))
   unfolding over
   next n part after r room p e k a long =
       let front : take used out ≡ s .done = ap (take used) (s .memory) ∙ take-at (s .done) (drop (length (s .done)) out₀) used (sym (s .used-is)) in
@@ -147,3 +152,13 @@ module _ (g₀ : State) (input out₀ : List ℕ) (g : State) (at used : ℕ) (o
       let count : at + n + 1 - at ≡ n + 1 = omega arith in
       rw (gone, append-nil, front, add-assoc at n 1)
       (one n after r (omega (arith, s .long)) (e ∙ ap (untilOf 13) p) (simp length-drop k) (rw (lent, count) at a) (rw lent at long))
+
+-- ---- the state in parts
+
+abbrev pub gauge : Settings → Readings → Bool → State
+gauge s r u = record { settings = held s; readings = r; unlocked = u }
+
+-- the settings with what was decided, beside the readings as they were
+pub stored : (g₀ : State) (input out₀ : List ℕ) (at used : ℕ) (out : List ℕ) (s s′ : Settings) (r : Readings) (u : Bool) (d : Decided) → held s′ ≡ changedBy (held s) (d .change .put) (listOf (d .change .sources))
+    → Sofar g₀ input out₀ (decidedState (gauge s r u) d) at used out → Sofar g₀ input out₀ (gauge s′ r (d .unlocked)) at used out
+stored g₀ input out₀ at used out s s′ r u d e = subst (λ (h : Held). Sofar g₀ input out₀ (record { settings = h; readings = r; unlocked = d .unlocked }) at used out) (sym e)

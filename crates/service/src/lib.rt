@@ -17,38 +17,65 @@ pub struct Served {
 // How many bytes of an unfinished end are kept.
 pub const KEPT_MAX: usize = 110;
 
+fn stopped(
+    settings: settings::Settings,
+    readings: readings::Readings,
+    unlocked: bool,
+    taken: usize,
+    len: usize,
+) -> Served
+    ensures { λ r. ⌜ r ≡ record { gauge = record { settings = settings; readings = readings; unlocked = unlocked }; taken = taken; len = len } ⌝ }
+{
+    Served {
+        gauge: gauge_rules::Gauge {
+            settings,
+            readings,
+            unlocked,
+        },
+        taken,
+        len,
+    }
+}
+
 // Answers the whole requests of the input, each up to and with its CR. Their replies stand one after another at the front of the memory lent.
-// Serving stops where no whole request is left, or less memory than an answer asks for.
+// Serving stops where no whole request is left, or less memory than an answer asks for. Only what a request changes is stored anew.
 pub fn serve(g: gauge_rules::Gauge, input: &[u8], out: &mut [u8]) -> Served
     ensures { λ r. ⌜ Serves (stateOf g) (now (input .entry)) (now (out .entry)) (now (out .exit)) r ⌝ }
     ensures { λ r. ⌜ (r .taken ≤ length (now (input .entry))) × (r .len ≤ length (now (out .entry))) ⌝ }
     ensures { λ r. ⌜ (Counted (g .settings .sources) → Counted (r .gauge .settings .sources)) ⌝ }
 {
-    let mut h = g;
+    let mut settings = g.settings;
+    let readings = g.readings;
+    let mut unlocked = g.unlocked;
     let mut at: usize = 0;
     let mut used: usize = 0;
     while text_gauge::ROOM <= out.len() - used {
-        let n = buffer::until(buffer::rest(input, at), 13);
+        let n = buffer::until(&input[at..], 13);
         if input.len() - at <= n {
-            return Served {
-                gauge: h,
-                taken: at,
-                len: used,
-            };
+            return stopped(settings, readings, unlocked, at, used);
         }
         let end = at + n + 1;
-        let a = text_gauge::answer(h, &input[at..end], &mut out[used..]);
-        let asked = a.gauge;
-        let w = a.written;
-        h = asked;
+        let h = gauge_rules::Gauge {
+            settings,
+            readings,
+            unlocked,
+        };
+        let d = text_gauge::decide(h, &input[at..end], &mut out[used..]);
+        let w = d.written;
+        let change = d.change;
+        let list = change.sources;
+        let put = change.put;
+        match put {
+            settings::Put::Nothing => {}
+            settings::Put::Value(setting) => {
+                settings = settings.with(setting, list);
+            }
+        }
+        unlocked = d.unlocked;
         at = end;
         used += w.len;
     }
-    Served {
-        gauge: h,
-        taken: at,
-        len: used,
-    }
+    stopped(settings, readings, unlocked, at, used)
 }
 
 fn least(a: usize, b: usize) -> usize

@@ -11,6 +11,8 @@ use Rattle.settings.specs.declared.Key.{Key}
 use Rattle.settings.specs.declared.Key.the-variants.{DA, DU, C1, CM, CC, FC, ST, SM}
 use Rattle.settings.specs.declared.Setting.{Setting}
 use Rattle.settings.specs.declared.Setting.the-variants.{Address, PressureIn, Factor, Control, Cathode, Filament, Switch, Stream}
+use Rattle.settings.specs.declared.Put.{Put}
+use Rattle.settings.specs.declared.Put.the-variants.{Nothing, Value}
 use Rattle.settings.specs.declared.Settings.{Settings}
 
 -- what settings hold, the sources as a list; the list counts while lines are sent
@@ -72,3 +74,8 @@ putOf s (Stream v) list = record { address = s .address; unit = s .unit; factor 
 -- the settings with one of them at its factory value
 unfoldable pub restoreOf : Held → Key → Held
 restoreOf s key = putOf s (factoryOf key) []
+
+-- the settings after a change: as they were, or with one of them set
+unfoldable pub changedBy : Held → Put → List ℕ → Held
+changedBy s Nothing list = s
+changedBy s (Value x) list = putOf s x list

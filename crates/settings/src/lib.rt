@@ -6,7 +6,7 @@ ghost use Rattle.buffer.specs.Text.{textOf};
 ghost use Rattle.buffer.specs.Byte.{digit, digits3};
 ghost use Rattle.sources.specs.Source.{listOf, Counted};
 ghost use Rattle.settings.specs.Limits.{isFactor};
-ghost use Rattle.settings.specs.Settings.{held, factory, keyOf, factoryOf, bothOf, putOf, restoreOf};
+ghost use Rattle.settings.specs.Settings.{held, factory, keyOf, factoryOf, bothOf, putOf, restoreOf, changedBy};
 ghost use Rattle.settings.specs.declared.NamedUnit.{NamedUnit};
 ghost use Rattle.settings.specs.Units.{unitCode, unitNamed};
 ghost use Rattle.settings.specs.Sent.{unitText, transitionText, streamText, readText};
@@ -83,6 +83,18 @@ pub struct Settings {
     pub transition: Transition,
     pub streaming: bool,
     pub sources: sources::Sources,
+}
+
+// Nothing, or the value of one setting.
+pub enum Put {
+    Nothing,
+    Value(Setting),
+}
+
+// What a request changes: what it puts, and the sources that count where it puts Stream.
+pub struct Change {
+    pub sources: sources::Sources,
+    pub put: Put,
 }
 
 impl Settings {
@@ -237,6 +249,19 @@ impl Settings {
         ensures { λ r. ⌜ (Counted (self .sources) → Counted (r .sources)) ⌝ }
     {
         self.with(Settings::factory_value(key), sources::Sources::NONE)
+    }
+
+    // The settings after a change.
+    pub fn changed(self, change: Change) -> Settings
+        ensures { λ r. ⌜ held r ≡ changedBy (held self) (change .put) (listOf (change .sources)) ⌝ }
+        ensures { λ r. ⌜ (Counted (self .sources) → Counted (change .sources) → Counted (r .sources)) ⌝ }
+    {
+        let put = change.put;
+        let list = change.sources;
+        match put {
+            Put::Nothing => self,
+            Put::Value(setting) => self.with(setting, list),
+        }
     }
 
     // The text that a read of one setting sends.

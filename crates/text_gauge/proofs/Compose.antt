@@ -20,7 +20,11 @@ use Rattle.frame_writer.specs.Written.{frameV1, frameV2}
 use Rattle.frame_writer.specs.Sendable.{SendableV1, SendableV2}
 use Rattle.frames_facts.proofs.Shape.{Framed, Tells, tells}
 use Rattle.frames_facts.proofs.Exactly.{head-read-v1, head-read-v2}
-use Rattle.settings.specs.Settings.{held}
+use Rattle.sources.specs.Source.{listOf}
+use Rattle.sources.specs.declared.Sources.{Sources}
+use Rattle.settings.specs.Settings.{Held, held, changedBy}
+use Rattle.settings.specs.declared.Change.{Change}
+use Rattle.settings.specs.declared.Put.{Put}
 use Rattle.settings.specs.declared.Settings.{Settings}
 use Rattle.requests.specs.AskV2.{askV2, askList}
 use Rattle.requests.specs.AskV1.{askV1}
@@ -35,60 +39,62 @@ use Rattle.gauge_rules.specs.declared.Gauge.{Gauge}
 use Rattle.gauge_table.specs.Table.{answerRoom, otherAddress, numberOf}
 use Rattle.gauge_table.specs.Reply.{errorV2, errorV1, answerHead}
 use Rattle.gauge_table.proofs.Numbers.{Numbered, numbered, number-6, number-v1, number-v2}
-use Rattle.text_gauge.specs.Answer.{Answers}
-use Rattle.text_gauge.specs.Inner.{Fits, answerV2, nextV2, answerV1, nextV1, AnswersV2, AnswersV1}
-use Rattle.text_gauge.specs.declared.Answered.{Answered}
+use Rattle.text_gauge.specs.Answer.{Decides, decidedState}
+use Rattle.text_gauge.specs.Inner.{Fits, answerV2, nextV2, answerV1, nextV1, DecidesV2, DecidesV1}
+use Rattle.text_gauge.specs.declared.Decided.{Decided}
 use Rattle.text_gauge.proofs.Bridge.{quiet, table-v2, table-length, table-v1}
 
--- an answer that was made, with another name
-abbrev Made : Gauge → Written → Answered → Type 0
-Made gauge w r = (r .gauge ≡ gauge) × (r .written ≡ w)
+-- nothing changes but the unlock
+abbrev Made : Bool → Written → Decided → Type 0
+Made u w r = (r .change .put ≡ Put.Nothing) × (r .unlocked ≡ u) × (r .written ≡ w)
+
+stays : (g : State) (u : Bool) (w : Written) (r : Decided) → Made u w r → decidedState g r ≡ unlockedAs g u
+unfolding changedBy
+stays g u w r f = rw (f .0, f .1)
 
 -- ---- V2: a typed request
 
-module _ (gauge : Gauge) (h : HeadV2) (ask : AskV2) (list m m′ : List ℕ) (w : Written) (r : Answered) where
-  pub refused-v2 : (k : ℕ) → ask ≡ AskV2.Refused k → Made gauge w r → Sent m (record { number = k; reply = errorV2 k h }) m′ w → AnswersV2 (stateOf gauge) h ask list m m′ r
+module _ (gauge : Gauge) (h : HeadV2) (ask : AskV2) (list m m′ : List ℕ) (w : Written) (r : Decided) where
+  pub refused-v2 : (k : ℕ) → ask ≡ AskV2.Refused k → Made (gauge .unlocked) w r → Sent m (record { number = k; reply = errorV2 k h }) m′ w → DecidesV2 (stateOf gauge) h ask list m m′ r
   unfolding answerV2 nextV2
-  refused-v2 k e f s = rw e (record { sent = rw (f .1) s; state = ap stateOf (f .0) })
+  refused-v2 k e f s = rw e (record { sent = rw (f .2) s; state = stays (stateOf gauge) _ w r f })
 
-  pub denied-v2 : (q : RequestV2) (n : ℕ) → ask ≡ AskV2.Asks q → n ≡ grantV2 (stateOf gauge) q → (n ≡ 0 → ⊥) → Made gauge w r → Sent m (record { number = n; reply = errorV2 n h }) m′ w
-      → AnswersV2 (stateOf gauge) h ask list m m′ r
+  pub denied-v2 : (q : RequestV2) (n : ℕ) → ask ≡ AskV2.Asks q → n ≡ grantV2 (stateOf gauge) q → (n ≡ 0 → ⊥) → Made (gauge .unlocked) w r
+      → Sent m (record { number = n; reply = errorV2 n h }) m′ w → DecidesV2 (stateOf gauge) h ask list m m′ r
   unfolding answerV2 nextV2 pick
   denied-v2 q n e g z f s =
       let z0 : eqb (grantV2 (stateOf gauge) q) 0 ≡ false = ne-eqb _ 0 (λ o. z (g ∙ o)) in
-      rw e (record { sent = rw (f .1, z0, ← g) s; state = rw z0 (ap stateOf (f .0)) })
+      rw e (record { sent = rw (f .2, z0, ← g) s; state = rw z0 (stays (stateOf gauge) _ w r f) })
 
-pub granted-v2 : (gauge : Gauge) (h : HeadV2) (ask : AskV2) (list m m′ : List ℕ) (w : Written) (q : RequestV2) (n code : ℕ) (text : List ℕ) (s : Settings) (after : Gauge) → ask ≡ AskV2.Asks q → n ≡ grantV2 (stateOf gauge) q → n ≡ 0
-    → code ≡ answerCode q → text ≡ textV2 (stateOf gauge) q → Sent m (record { number = 0; reply = frameV2 (answerHead h code) text }) m′ w → held s ≡ enterV2 (held (gauge .settings)) q list
-    → stateOf after ≡ settled (stateOf gauge) (held s) → AnswersV2 (stateOf gauge) h ask list m m′ (record { gauge = after; written = w })
+pub granted-v2 : (gauge : Gauge) (h : HeadV2) (ask : AskV2) (list m m′ : List ℕ) (w : Written) (q : RequestV2) (n code : ℕ) (text : List ℕ) (c : Change) → ask ≡ AskV2.Asks q → n ≡ grantV2 (stateOf gauge) q
+    → n ≡ 0 → code ≡ answerCode q → text ≡ textV2 (stateOf gauge) q → Sent m (record { number = 0; reply = frameV2 (answerHead h code) text }) m′ w → ((s : Held) → changedBy s (c .put) (listOf (c .sources)) ≡ enterV2 s q list)
+    → DecidesV2 (stateOf gauge) h ask list m m′ (record { written = w; change = c; unlocked = gauge .unlocked })
 unfolding answerV2 nextV2 pick
-granted-v2 gauge h ask list m m′ w q n code text s after e g z c t f k a =
+granted-v2 gauge h ask list m m′ w q n code text c e g z o t f k =
     let z0 : grantV2 (stateOf gauge) q ≡ 0 = sym g ∙ z in
-    rw e (record { sent = rw z0 (rw (c, t) at f); state = a ∙ rw (z0, k) })
+    rw e (record { sent = rw z0 (rw (o, t) at f); state = rw (z0, k) })
 
 -- ---- V1: a typed request
 
-module _ (gauge : Gauge) (s : List ℕ) (h : HeadV1) (ask : AskV1) (m m′ : List ℕ) (w : Written) (r : Answered) (locked : Gauge) (l : stateOf locked ≡ unlockedAs (stateOf gauge) false) where
-  pub refused-v1 : (k : ℕ) → ask ≡ AskV1.Refused k → Made locked w r → Sent m (record { number = k; reply = errorV1 k h }) m′ w
-      → AnswersV1 (stateOf gauge) s h ask m m′ r
+module _ (gauge : Gauge) (s : List ℕ) (h : HeadV1) (ask : AskV1) (m m′ : List ℕ) (w : Written) (r : Decided) where
+  pub refused-v1 : (k : ℕ) → ask ≡ AskV1.Refused k → Made false w r → Sent m (record { number = k; reply = errorV1 k h }) m′ w → DecidesV1 (stateOf gauge) s h ask m m′ r
   unfolding answerV1 nextV1
-  refused-v1 k e f t = rw e (record { sent = rw (f .1) t; state = ap stateOf (f .0) ∙ l })
+  refused-v1 k e f t = rw e (record { sent = rw (f .2) t; state = stays (stateOf gauge) _ w r f })
 
-  pub denied-v1 : (q : RequestV1) (n : ℕ) → ask ≡ AskV1.Asks q → n ≡ grantV1 (stateOf gauge) q → (n ≡ 0 → ⊥) → Made locked w r
-      → Sent m (record { number = n; reply = errorV1 n h }) m′ w → AnswersV1 (stateOf gauge) s h ask m m′ r
+  pub denied-v1 : (q : RequestV1) (n : ℕ) → ask ≡ AskV1.Asks q → n ≡ grantV1 (stateOf gauge) q → (n ≡ 0 → ⊥) → Made false w r
+      → Sent m (record { number = n; reply = errorV1 n h }) m′ w → DecidesV1 (stateOf gauge) s h ask m m′ r
   unfolding answerV1 nextV1 pick
   denied-v1 q n e g z f t =
       let z0 : eqb (grantV1 (stateOf gauge) q) 0 ≡ false = ne-eqb _ 0 (λ o. z (g ∙ o)) in
-      rw e (record { sent = rw (f .1, z0, ← g) t; state = rw z0 (ap stateOf (f .0) ∙ l) })
+      rw e (record { sent = rw (f .2, z0, ← g) t; state = rw z0 (stays (stateOf gauge) _ w r f) })
 
-pub granted-v1 : (gauge : Gauge) (s : List ℕ) (h : HeadV1) (ask : AskV1) (m m′ : List ℕ) (w : Written) (q : RequestV1) (n : ℕ) (t : Settings) (entered after : Gauge) → ask ≡ AskV1.Asks q → n ≡ grantV1 (stateOf gauge) q → n ≡ 0
-    → Sent m (record { number = 0; reply = pick (repeats q) s (frameV1 h (textV1 (stateOf gauge) q)) }) m′ w → held t ≡ settingsV1 (stateOf gauge) q
-    → (u : Bool) → u ≡ unlocks q → stateOf entered ≡ settled (stateOf gauge) (held t) → stateOf after ≡ unlockedAs (stateOf entered) u
-    → AnswersV1 (stateOf gauge) s h ask m m′ (record { gauge = after; written = w })
+pub granted-v1 : (gauge : Gauge) (s : List ℕ) (h : HeadV1) (ask : AskV1) (m m′ : List ℕ) (w : Written) (q : RequestV1) (n : ℕ) (list : Sources) (p : Put) (u : Bool) → ask ≡ AskV1.Asks q → n ≡ grantV1 (stateOf gauge) q → n ≡ 0
+    → Sent m (record { number = 0; reply = pick (repeats q) s (frameV1 h (textV1 (stateOf gauge) q)) }) m′ w → ((l : List ℕ) → changedBy (held (gauge .settings)) p l ≡ settingsV1 (stateOf gauge) q) → u ≡ unlocks q
+    → DecidesV1 (stateOf gauge) s h ask m m′ (record { written = w; change = record { sources = list; put = p }; unlocked = u })
 unfolding answerV1 nextV1 settingsV1 pick
-granted-v1 gauge s h ask m m′ w q n t entered after e g z f k u v a b =
+granted-v1 gauge s h ask m m′ w q n list p u e g z f k v =
     let z0 : grantV1 (stateOf gauge) q ≡ 0 = sym g ∙ z in
-    rw e (record { sent = rw z0 f; state = b ∙ (ap (λ (x : State). unlockedAs x u) a ∙ rw (z0, rw z0 at k, v)) })
+    rw e (record { sent = rw z0 f; state = rw (z0, rw z0 at (k (listOf list)), v) })
 
 -- ---- any bytes
 
@@ -103,14 +109,14 @@ unfolding numberOf pick
 no-room g room s e = rw e
 
 module _ (gauge : Gauge) (s m : List ℕ) where
-  pub silent-answers : (k : ℕ) (r : Answered) → numberOf (stateOf gauge) (length m) s ≡ k → within 1 5 k ≡ true → Made gauge (record { number = k; len = 0 }) r → Answers (stateOf gauge) s m m r
+  pub silent-answers : (k : ℕ) (r : Decided) → numberOf (stateOf gauge) (length m) s ≡ k → within 1 5 k ≡ true → Made (gauge .unlocked) (record { number = k; len = 0 }) r → Decides (stateOf gauge) s m m r
   silent-answers k r n w f =
       let q = quiet (stateOf gauge) (length m) s k n w in
-      record { sent = rw (f .1) (refuses m k (q .0)); state = ap stateOf (f .0) ∙ sym (q .1) }
+      record { sent = rw (f .2) (refuses m k (q .0)); state = stays (stateOf gauge) _ _ r f ∙ sym (q .1) }
 
-  module _ (m′ : List ℕ) (r : Answered) (room : ltb (length m) answerRoom ≡ false) (fr : Framed s) (o : otherAddress (stateOf gauge) s ≡ false) where
+  module _ (m′ : List ℕ) (r : Decided) (room : ltb (length m) answerRoom ≡ false) (fr : Framed s) (o : otherAddress (stateOf gauge) s ≡ false) where
     pub v1-answers : (head : HeadV1) (bytes : List ℕ) (ask : AskV1) → isLetter (at s 3) ≡ true → head ≡ headV1 s → bytes ≡ dataFrom 4 s → ask ≡ askV1 (head .letter) bytes
-        → AnswersV1 (stateOf gauge) s head ask m m′ r → Answers (stateOf gauge) s m m′ r
+        → DecidesV1 (stateOf gauge) s head ask m m′ r → Decides (stateOf gauge) s m m′ r
     unfolding headV1
     v1-answers head bytes ask l e b a h =
         let t = table-v1 (stateOf gauge) s l (length m) (number-v1 s (stateOf gauge) (length m) room fr o l) in
@@ -118,17 +124,22 @@ module _ (gauge : Gauge) (s m : List ℕ) where
         record { sent = rw (t .0) (h′ .sent); state = h′ .state ∙ sym (t .1) }
 
     pub v2-answers : (head : HeadV2) (bytes : List ℕ) (ask : AskV2) (list : List ℕ) → isLetter (at s 3) ≡ false → wrongLength s ≡ false → head ≡ headV2 s → bytes ≡ dataFrom 8 s → ask ≡ askV2 head bytes
-        → list ≡ askList head bytes → AnswersV2 (stateOf gauge) head ask list m m′ r → Answers (stateOf gauge) s m m′ r
+        → list ≡ askList head bytes → DecidesV2 (stateOf gauge) head ask list m m′ r → Decides (stateOf gauge) s m m′ r
     v2-answers head bytes ask list l w e b a i h =
         let t = table-v2 (stateOf gauge) s l (length m) (number-v2 s (stateOf gauge) (length m) room fr o l w) in
         let h′ = rw (a, i, b, e) at h in
         record { sent = rw (t .0) (h′ .sent); state = h′ .state ∙ sym (t .1) }
 
-    pub length-answers : (head : HeadV2) (w : Written) → isLetter (at s 3) ≡ false → wrongLength s ≡ true → head ≡ headV2 s → Made gauge w r
-        → Sent m (record { number = 6; reply = errorV2 6 head }) m′ w → Answers (stateOf gauge) s m m′ r
+    pub length-answers : (head : HeadV2) (w : Written) → isLetter (at s 3) ≡ false → wrongLength s ≡ true → head ≡ headV2 s → Made (gauge .unlocked) w r
+        → Sent m (record { number = 6; reply = errorV2 6 head }) m′ w → Decides (stateOf gauge) s m m′ r
     length-answers head w l x e f h =
         let t = table-length (stateOf gauge) s l (length m) (number-6 s (stateOf gauge) (length m) room fr o l x) in
-        record { sent = rw (t .0, f .1) (rw e at h); state = ap stateOf (f .0) ∙ sym (t .1) }
+        record { sent = rw (t .0, f .2) (rw e at h); state = stays (stateOf gauge) _ w r f ∙ sym (t .1) }
+
+-- what was decided, applied to the gauge
+pub applied : (gauge entered after : Gauge) (s : Settings) (r : Decided) → held s ≡ changedBy (held (gauge .settings)) (r .change .put) (listOf (r .change .sources)) → stateOf entered ≡ settled (stateOf gauge) (held s)
+    → stateOf after ≡ unlockedAs (stateOf entered) (r .unlocked) → stateOf after ≡ decidedState (stateOf gauge) r
+applied gauge entered after s r k a b = b ∙ ap (λ (x : State). unlockedAs x (r .unlocked)) (a ∙ ap (settled (stateOf gauge)) k)
 
 -- ---- addresses and heads
 

@@ -12,12 +12,13 @@ use Rattle.frames.specs.declared.HeadV2.{HeadV2}
 use Rattle.frame_writer.specs.Written.{frameV1, frameV2}
 use Rattle.requests.specs.declared.AskV2.{AskV2}
 use Rattle.requests.specs.declared.AskV1.{AskV1}
-use Rattle.gauge_rules.specs.State.{State, stateOf, settled, unlockedAs}
+use Rattle.gauge_rules.specs.State.{State, settled, unlockedAs}
 use Rattle.gauge_rules.specs.RulesV2.{answerCode, grantV2, textV2, enterV2}
 use Rattle.gauge_rules_v1.specs.RulesV1.{grantV1, textV1, repeats, unlocks, enterV1}
 use Rattle.gauge_table.specs.Table.{answerRoom}
 use Rattle.gauge_table.specs.Reply.{errorV2, errorV1, answerHead}
-use Rattle.text_gauge.specs.declared.Answered.{Answered}
+use Rattle.text_gauge.specs.declared.Decided.{Decided}
+use Rattle.text_gauge.specs.Answer.{decidedState}
 
 -- room for any reply, and a head that can be sent
 pub record Fits (Head : Type 0) (memory : List ℕ) : Type 0 where
@@ -57,10 +58,10 @@ nextV1 g (AskV1.Asks r) =
     ∷ [])
     (unlockedAs g false)
 
-pub record AnswersV2 (g : State) (h : HeadV2) (ask : AskV2) (list before after : List ℕ) (r : Answered) : Type 0 where
+pub record DecidesV2 (g : State) (h : HeadV2) (ask : AskV2) (list before after : List ℕ) (r : Decided) : Type 0 where
   pub sent : Sent before (answerV2 g h ask) after (r .written)
-  pub state : stateOf (r .gauge) ≡ nextV2 g list ask
+  pub state : decidedState g r ≡ nextV2 g list ask
 
-pub record AnswersV1 (g : State) (s : List ℕ) (h : HeadV1) (ask : AskV1) (before after : List ℕ) (r : Answered) : Type 0 where
+pub record DecidesV1 (g : State) (s : List ℕ) (h : HeadV1) (ask : AskV1) (before after : List ℕ) (r : Decided) : Type 0 where
   pub sent : Sent before (answerV1 g s h ask) after (r .written)
-  pub state : stateOf (r .gauge) ≡ nextV1 g ask
+  pub state : decidedState g r ≡ nextV1 g ask

@@ -9,6 +9,7 @@ ghost use Rattle.buffer.specs.Text.{textOf};
 ghost use Rattle.buffer.specs.Answer.{Sent};
 ghost use Rattle.sources.specs.Source.{listOf, Counted};
 ghost use Rattle.settings.specs.Settings.{held};
+ghost use Rattle.settings.specs.declared.Put.{Put};
 ghost use Rattle.frame_writer.specs.Written.{frameV1, frameV2};
 ghost use Rattle.frame_writer.specs.Sendable.{SendableV1, SendableV2};
 ghost use Rattle.buffer.specs.First.{_⇒_, first};
@@ -16,13 +17,20 @@ ghost use Rattle.gauge_rules.specs.State.{stateOf};
 ghost use Rattle.gauge_rules_v1.specs.RulesV1.{textV1, repeats};
 ghost use Rattle.line.specs.Line.{lineAnswer};
 ghost use Rattle.gauge_table.specs.Reply.{errorV2, errorV1, answerHead};
-ghost use Rattle.text_gauge.specs.Answer.{Answers, Benches};
-ghost use Rattle.text_gauge.specs.Inner.{Fits, AnswersV2, AnswersV1};
+ghost use Rattle.text_gauge.specs.Answer.{Answers, Decides, Benches};
+ghost use Rattle.text_gauge.specs.Inner.{Fits, DecidesV2, DecidesV1};
 
 // The gauge after a request, and what it answered.
 pub struct Answered {
     pub gauge: gauge_rules::Gauge,
     pub written: buffer::Written,
+}
+
+// What a request does: what was answered, what it changes, and whether the gauge is unlocked afterwards.
+pub struct Decided {
+    pub written: buffer::Written,
+    pub change: settings::Change,
+    pub unlocked: bool,
 }
 
 // The gauge after a bench setting, and the answer's number.
@@ -105,42 +113,51 @@ fn repeat(out: &mut [u8], request: &[u8]) -> buffer::Written
 
 // ---- requests
 
-fn same(gauge: gauge_rules::Gauge, written: buffer::Written) -> Answered
-    ensures { λ r. ⌜ (r .gauge ≡ gauge) × (r .written ≡ written) ⌝ }
+// Nothing changes but, where it is said so, the unlock.
+fn same(unlocked: bool, written: buffer::Written) -> Decided
+    ensures { λ r. ⌜ (r .change .put ≡ Put.Nothing) × (r .unlocked ≡ unlocked) × (r .written ≡ written) ⌝ }
+    ensures { λ r. ⌜ Counted (r .change .sources) ⌝ }
 {
-    Answered { gauge, written }
+    Decided {
+        written,
+        change: settings::Change {
+            sources: sources::Sources::NONE,
+            put: settings::Put::Nothing,
+        },
+        unlocked,
+    }
 }
 
 // A V2 request to this gauge's address, and the sources beside it.
-fn answer_v2(
+fn decide_v2(
     g: gauge_rules::Gauge,
     head: frames::HeadV2,
     asked: requests::AskedV2,
     out: &mut [u8],
-) -> Answered
+) -> Decided
     requires { ⌜ Fits (SendableV2 head []) (now out) ⌝ }
     requires { ⌜ head .address ≡ g .settings .address ⌝ }
-    ensures { λ r. ⌜ AnswersV2 (stateOf g) head (asked .ask) (listOf (asked .sources)) (now (out .entry)) (now (out .exit)) r ⌝ }
-    ensures { λ r. ⌜ (Counted (g .settings .sources) → Counted (asked .sources) → Counted (r .gauge .settings .sources)) ⌝ }
+    ensures { λ r. ⌜ DecidesV2 (stateOf g) head (asked .ask) (listOf (asked .sources)) (now (out .entry)) (now (out .exit)) r ⌝ }
+    ensures { λ r. ⌜ (Counted (asked .sources) → Counted (r .change .sources)) ⌝ }
 {
     let ask = asked.ask;
     let list = asked.sources;
     match ask {
-        requests::AskV2::Refused(k) => same(g, refuse_v2(out, head, k)),
+        requests::AskV2::Refused(k) => same(g.unlocked, refuse_v2(out, head, k)),
         requests::AskV2::Asks(request) => {
             let number = gauge_rules::number_v2(g, request);
             if number != 0 {
-                return same(g, refuse_v2(out, head, number));
+                return same(g.unlocked, refuse_v2(out, head, number));
             }
-            let text = gauge_rules::text_v2(g, request);
-            let old = g.settings;
-            let settings = gauge_rules::enter_v2(old, request, list);
             // "A DA write or restore is answered from the old address."
+            let old = g.settings;
+            let text = gauge_rules::text_v2(g, request);
             let code = gauge_rules::answer_code(request);
             let written = reply_v2(out, head, old.address, code, text);
-            Answered {
-                gauge: g.with_settings(settings),
+            Decided {
                 written,
+                change: gauge_rules::change_v2(request, list),
+                unlocked: g.unlocked,
             }
         }
     }
@@ -166,50 +183,50 @@ fn granted_v1(
 }
 
 // A V1 request. It ends the unlock, unless it is an accepted unlock.
-fn answer_v1(
+fn decide_v1(
     g: gauge_rules::Gauge,
     request: &[u8],
     head: frames::HeadV1,
     ask: requests::AskV1,
     out: &mut [u8],
-) -> Answered
+) -> Decided
     requires { ⌜ Fits (SendableV1 head []) (now out) ⌝ }
     requires { ⌜ length (now request) ≤ 12 ⌝ }
-    ensures { λ r. ⌜ AnswersV1 (stateOf g) (now (request .entry)) head ask (now (out .entry)) (now (out .exit)) r ⌝ }
-    ensures { λ r. ⌜ (Counted (g .settings .sources) → Counted (r .gauge .settings .sources)) ⌝ }
+    ensures { λ r. ⌜ DecidesV1 (stateOf g) (now (request .entry)) head ask (now (out .entry)) (now (out .exit)) r ⌝ }
+    ensures { λ r. ⌜ Counted (r .change .sources) ⌝ }
 {
-    let locked = g.with_unlock(false);
     match ask {
-        requests::AskV1::Refused(k) => same(locked, refuse_v1(out, head, k)),
+        requests::AskV1::Refused(k) => same(false, refuse_v1(out, head, k)),
         requests::AskV1::Asks(asks) => {
             let number = gauge_rules_v1::number_v1(g, asks);
             if number != 0 {
-                return same(locked, refuse_v1(out, head, number));
+                return same(false, refuse_v1(out, head, number));
             }
             let written = granted_v1(g, request, head, asks, out);
-            let unlocked = gauge_rules_v1::unlocks_gauge(asks);
-            let settings = gauge_rules_v1::enter_v1(g, asks);
-            Answered {
-                gauge: g.with_settings(settings).with_unlock(unlocked),
+            Decided {
                 written,
+                change: settings::Change {
+                    sources: sources::Sources::NONE,
+                    put: gauge_rules_v1::put_v1(g, asks),
+                },
+                unlocked: gauge_rules_v1::unlocks_gauge(asks),
             }
         }
     }
 }
 
-fn silent(gauge: gauge_rules::Gauge, number: u16) -> Answered
-    ensures { λ r. ⌜ (r .gauge ≡ gauge) × (r .written ≡ record { number = number; len = 0 }) ⌝ }
+// Neither a reply nor a change.
+fn silent(g: gauge_rules::Gauge, number: u16) -> Decided
+    ensures { λ r. ⌜ (r .change .put ≡ Put.Nothing) × (r .unlocked ≡ g .unlocked) × (r .written ≡ record { number = number; len = 0 }) ⌝ }
+    ensures { λ r. ⌜ Counted (r .change .sources) ⌝ }
 {
-    Answered {
-        gauge,
-        written: buffer::Written { number, len: 0 },
-    }
+    same(g.unlocked, buffer::Written { number, len: 0 })
 }
 
-// Answers any bytes, in any memory lent.
-pub fn answer(g: gauge_rules::Gauge, request: &[u8], out: &mut [u8]) -> Answered
-    ensures { λ r. ⌜ Answers (stateOf g) (now (request .entry)) (now (out .entry)) (now (out .exit)) r ⌝ }
-    ensures { λ r. ⌜ (Counted (g .settings .sources) → Counted (r .gauge .settings .sources)) ⌝ }
+// Answers any bytes, in any memory lent, and says what they change: the gauge itself is not moved through the code that makes the reply.
+pub fn decide(g: gauge_rules::Gauge, request: &[u8], out: &mut [u8]) -> Decided
+    ensures { λ r. ⌜ Decides (stateOf g) (now (request .entry)) (now (out .entry)) (now (out .exit)) r ⌝ }
+    ensures { λ r. ⌜ Counted (r .change .sources) ⌝ }
 {
     if out.len() < ROOM {
         return silent(g, 1);
@@ -223,21 +240,37 @@ pub fn answer(g: gauge_rules::Gauge, request: &[u8], out: &mut [u8]) -> Answered
                 return silent(g, 5);
             }
             let ask = requests::read_v1(head.letter, frames::data_v1(request));
-            answer_v1(g, request, head, ask, out)
+            decide_v1(g, request, head, ask, out)
         }
         frames::Frame::Length(head) => {
             if head.address != address {
                 return silent(g, 5);
             }
-            same(g, refuse_v2(out, head, 6))
+            same(g.unlocked, refuse_v2(out, head, 6))
         }
         frames::Frame::V2(head) => {
             if head.address != address {
                 return silent(g, 5);
             }
             let asked = requests::read_v2(head, frames::data_v2(request));
-            answer_v2(g, head, asked, out)
+            decide_v2(g, head, asked, out)
         }
+    }
+}
+
+// Answers any bytes, in any memory lent.
+pub fn answer(g: gauge_rules::Gauge, request: &[u8], out: &mut [u8]) -> Answered
+    ensures { λ r. ⌜ Answers (stateOf g) (now (request .entry)) (now (out .entry)) (now (out .exit)) r ⌝ }
+    ensures { λ r. ⌜ (Counted (g .settings .sources) → Counted (r .gauge .settings .sources)) ⌝ }
+{
+    let d = decide(g, request, out);
+    let written = d.written;
+    let change = d.change;
+    let old = g.settings;
+    let settings = old.changed(change);
+    Answered {
+        gauge: g.with_settings(settings).with_unlock(d.unlocked),
+        written,
     }
 }
 

@@ -1,6 +1,7 @@
 //! An independent implementation of the rules of document 01, used as the
 //! reference that another implementation is compared with.
 
+pub mod captures;
 pub mod opg;
 pub mod random;
 pub mod replay;

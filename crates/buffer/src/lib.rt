@@ -34,6 +34,9 @@ pub struct Text {
 }
 
 impl Text {
+    // how many characters a text holds
+    pub const MOST: usize = 24;
+
     pub const EMPTY: Text = Text {
         bytes: [
             0,
@@ -70,7 +73,7 @@ impl Text {
     {
         let mut bytes = self.bytes;
         let mut len = self.len;
-        if len < 24 {
+        if len < Text::MOST {
             bytes[len] = b;
             len += 1;
         }
@@ -85,7 +88,7 @@ impl Text {
         let mut len = self.len;
         let mut i: usize = 0;
         while i < src.len() {
-            if len < 24 {
+            if len < Text::MOST {
                 bytes[len] = src[i];
                 len += 1;
             }
@@ -108,10 +111,10 @@ impl Text {
         ensures { λ r. ⌜ r ≡ length (textOf self) ⌝ }
     {
         let n = self.len;
-        if n < 24 {
+        if n < Text::MOST {
             return n;
         }
-        24
+        Text::MOST
     }
 }
 
@@ -229,7 +232,7 @@ pub fn starts_with(s: &[u8], b: u8) -> bool
     s[0] == b
 }
 
-// A place that has no b before it, found four bytes at a time.
+// A place that has no b before it, found four bytes at a time: the first b, or where fewer than four bytes are left.
 fn passed_by_fours(s: &[u8], b: u8) -> usize
     ensures { λ r. ⌜ (r ≤ length (now (s .entry))) × (r + untilOf b (drop r (now (s .entry))) ≡ untilOf b (now (s .entry))) ⌝ }
 {

@@ -103,7 +103,8 @@ pub fn data_v2<'a>(s: &'a [u8]) -> &'a [u8]
     data_from(s, 8)
 }
 
-// The checksum of s, or 0 where a byte of s lies outside 32 to 126. (No checksum is 0.)
+// The checksum of s, or 0 where a byte of s lies outside 32 to 126. (No checksum is 0.) The sum wraps at 256, a multiple of 64: beside the
+// test of each byte this is the faster form, in `checksum` the other one is.
 fn printed_sum(s: &[u8]) -> u8
     ensures { λ r. ⌜ r ≡ first (every (within 32 126) (now (s .entry)) ⇒ checksumOf (now (s .entry)) ∷ []) 0 ⌝ }
 {

@@ -1,4 +1,4 @@
-// The text gauge's state, and the rules by which typed V2 requests are decided and entered (document 01, "Settings and readings, V2").
+// The text gauge's state, and the rules by which typed V2 requests are decided, with what they change (document 01, "Settings and readings, V2").
 ghost use mathlib.Core.Path.{_≡_};
 ghost use mathlib.Core.Bool.{_&&_};
 ghost use mathlib.Core.List.{List, []};
@@ -236,7 +236,7 @@ pub fn answer_code(request: requests::RequestV2) -> u8
 }
 
 // What a restore of a command puts: the factory value, where it is a setting.
-fn restores(command: requests::Command) -> settings::Put
+fn put_restored(command: requests::Command) -> settings::Put
     ensures { λ r. ⌜ ((h : Held) (list : List ℕ) → changedBy h r [] ≡ enterV2 h (RequestV2.Restore command) list) ⌝ }
 {
     match command {
@@ -262,11 +262,23 @@ pub fn change_v2(request: requests::RequestV2, list: sources::Sources) -> settin
         },
         requests::RequestV2::Restore(command) => settings::Change {
             sources: sources::Sources::NONE,
-            put: restores(command),
+            put: put_restored(command),
         },
         requests::RequestV2::Set(setting) => settings::Change {
             sources: list,
             put: settings::Put::Value(setting),
         },
     }
+}
+
+// The settings after an accepted V2 request.
+pub fn enter_v2(
+    s: settings::Settings,
+    request: requests::RequestV2,
+    list: sources::Sources,
+) -> settings::Settings
+    ensures { λ r. ⌜ held r ≡ enterV2 (held s) request (listOf list) ⌝ }
+    ensures { λ r. ⌜ (Counted (s .sources) → Counted list → Counted (r .sources)) ⌝ }
+{
+    s.changed(change_v2(request, list))
 }

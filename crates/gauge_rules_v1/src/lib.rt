@@ -1,10 +1,11 @@
-// The rules by which typed V1 requests are decided and entered (document 01, "V1 on the same settings").
+// The rules by which typed V1 requests are decided, with what they change (document 01, "V1 on the same settings").
 ghost use mathlib.Core.Path.{_≡_};
 ghost use mathlib.Core.List.{List, [], _∷_};
 ghost use Prim.Native.Nat.{ℕ};
 ghost use lib.Dec.{eqb};
 ghost use Rattle.buffer.specs.First.{_⇒_, first};
 ghost use Rattle.buffer.specs.Text.{textOf};
+ghost use Rattle.sources.specs.Source.{Counted};
 ghost use Rattle.settings.specs.Settings.{Held, held, putOf, changedBy};
 ghost use Rattle.settings.specs.declared.Setting.{Setting};
 ghost use Rattle.gauge_rules.specs.State.{stateOf};
@@ -100,7 +101,7 @@ fn put_factor(unlocked: bool, n: u32) -> settings::Put
     settings::Put::Value(settings::Setting::Factor(n as u16))
 }
 
-// What a V1 request puts: an accepted one enters, a refused one changes nothing.
+// What a V1 request puts. A refused one puts nothing.
 pub fn put_v1(g: gauge_rules::Gauge, request: requests::RequestV1) -> settings::Put
     ensures { λ r. ⌜ ((list : List ℕ) → changedBy (held (g .settings)) r list ≡ settingsV1 (stateOf g) request) ⌝ }
 {
@@ -114,4 +115,16 @@ pub fn put_v1(g: gauge_rules::Gauge, request: requests::RequestV1) -> settings::
             settings::Put::Value(settings::Setting::PressureIn(unit))
         }
     }
+}
+
+// The settings after a V1 request: an accepted one enters, a refused one changes nothing.
+pub fn enter_v1(g: gauge_rules::Gauge, request: requests::RequestV1) -> settings::Settings
+    ensures { λ r. ⌜ held r ≡ settingsV1 (stateOf g) request ⌝ }
+    ensures { λ r. ⌜ (Counted (g .settings .sources) → Counted (r .sources)) ⌝ }
+{
+    let s = g.settings;
+    s.changed(settings::Change {
+        sources: sources::Sources::NONE,
+        put: put_v1(g, request),
+    })
 }

@@ -17,6 +17,7 @@ pub struct Served {
 // How many bytes of an unfinished end are kept.
 pub const KEPT_MAX: usize = 110;
 
+// What was served, where serving stops.
 fn stopped(
     settings: settings::Settings,
     readings: readings::Readings,
@@ -65,6 +66,7 @@ pub fn serve(g: gauge_rules::Gauge, input: &[u8], out: &mut [u8]) -> Served
         let change = d.change;
         let list = change.sources;
         let put = change.put;
+        // `Settings::changed`, written out: where nothing changes, nothing is moved
         match put {
             settings::Put::Nothing => {}
             settings::Put::Value(setting) => {

@@ -23,7 +23,7 @@ pub record Answers (g : State) (s before after : List ℕ) (r : Answered) : Type
 abbrev pub decidedState : State → Decided → State
 decidedState g r = unlockedAs (settled g (changedBy (g .settings) (r .change .put) (listOf (r .change .sources)))) (r .unlocked)
 
--- the same, where the answer tells what changes and not the gauge afterwards
+-- as `Answers`, where the answer tells what changes and not the gauge afterwards: a change that gives this state, whichever it is
 pub record Decides (g : State) (s before after : List ℕ) (r : Decided) : Type 0 where
   pub sent : Sent before (answerOf g (length before) s) after (r .written)
   pub state : decidedState g r ≡ nextOf g (length before) s

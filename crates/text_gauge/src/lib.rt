@@ -223,7 +223,8 @@ fn silent(g: gauge_rules::Gauge, number: u16) -> Decided
     same(g.unlocked, buffer::Written { number, len: 0 })
 }
 
-// Answers any bytes, in any memory lent, and says what they change: the gauge itself is not moved through the code that makes the reply.
+// Answers any bytes, in any memory lent, and says what they change. So the gauge goes into the code that makes the reply, and only a change
+// comes out of it.
 pub fn decide(g: gauge_rules::Gauge, request: &[u8], out: &mut [u8]) -> Decided
     ensures { λ r. ⌜ Decides (stateOf g) (now (request .entry)) (now (out .entry)) (now (out .exit)) r ⌝ }
     ensures { λ r. ⌜ Counted (r .change .sources) ⌝ }

@@ -17,5 +17,5 @@ change-v2-spec =
     (λ c κs. search needs)
     (λ c. search needs)
     (λ c. (λ h. rw (c .enum-told .given .1), λ _. refl))
-    (λ c. (λ h. rw (c .before .before .request .given .1) (c .restores .ensures h _), λ _. refl))
+    (λ c. (λ h. rw (c .before .before .request .given .1) (c .put-restored .ensures h _), λ _. refl))
     (λ c. (λ h. rw (c .before .request2 .given .1), λ n. n)))

@@ -1,13 +1,13 @@
--- `gauge_rules::restores` meets its contract.
+-- `gauge_rules::put_restored` meets its contract.
 use borrow.Author.Needs.{needs}
 use Rattle.settings.specs.Settings.{restoreOf, changedBy}
 use Rattle.gauge_rules.specs.RulesV2.{enterV2}
-use Rattle.gauge_rules.proofs.restores.Statement.{statement}
-use Rattle.gauge_rules.proofs.restores.Tie as tie
+use Rattle.gauge_rules.proofs.put_restored.Statement.{statement}
+use Rattle.gauge_rules.proofs.put_restored.Tie as tie
 
-pub restores-spec : {M : Type 1} → statement M
+pub put-restored-spec : {M : Type 1} → statement M
 unfolding restoreOf changedBy enterV2
-restores-spec =
+put-restored-spec =
     tie.close
     (tie.spec
     (λ c. search needs)

@@ -2,10 +2,10 @@
  *
  * It does what `gauge` does without arguments: it answers text requests from standard input, each up to its CR, on
  * standard output, from factory settings. It is written as a C programmer would for speed: one pass over a request,
- * replies written in place, no allocation, and nothing of a library but read, write and copies of memory. It uses no
- * vector instructions by hand and keeps no replies.
+ * replies written in place, no allocation, and nothing of a library but read and write, and memory copied and compared.
+ * It uses no vector instructions by hand and keeps no replies.
  *
- * Nothing of it is proved. `measure` (compare/src/bin/measure/) compiles it with `cc -O3`, compares its replies with
+ * Nothing of it is proved. `measure` (compare/src/bin/measure/) compiles it with -O3, compares its replies with
  * those of the proved program byte for byte, and then gives the proved program's speed over this one's. */
 
 #include <stdbool.h>
@@ -609,7 +609,7 @@ static uint8_t *answer_v1(struct gauge *gauge, const uint8_t *request, size_t le
     const uint8_t *data = request + 4;
     size_t count = len - 6;
     bool unlocked = gauge->unlocked;
-    int refusal = count == 0 ? ACCEPTED : SYNTAX;
+    int refusal = count == 0 ? ACCEPTED : SYNTAX; /* of M and U, which have no data; V1 sends SYNTAX as _LOGIC */
 
     gauge->unlocked = false;
     memcpy(out, request, 12);
@@ -677,28 +677,34 @@ static inline struct scan scan_request(const uint8_t *request, const uint8_t *en
     return scan;
 }
 
+/* Whether a request of this kind, a digit for V2 or a letter for V1, can have so many bytes. */
+static inline bool length_fits(uint8_t kind, size_t len)
+{
+    if (is_digit(kind))
+        return len >= 10 && len <= 109;
+    return len <= 12 && (uint8_t)((kind | 32) - 'a') <= 'z' - 'a';
+}
+
 /* Answers one request: the place after its reply, if it has one. The checks 2 to 5 are silent. */
 static inline uint8_t *answer(struct gauge *gauge, const uint8_t *request, struct scan scan, uint8_t *out)
 {
     size_t len = scan.end + 1 - request;
     uint8_t checksum, kind;
-    bool v2;
 
     if (len < 6)
         return out;
     checksum = scan.end[-1];
     kind = request[3];
-    v2 = is_digit(kind);
     if (scan.strange != is_strange(checksum))
         return out;
-    if (v2 ? len < 10 || len > 109 : len > 12 || (uint8_t)((kind | 32) - 'a') > 'z' - 'a')
+    if (!length_fits(kind, len))
         return out;
     if (checksum != (scan.sum - checksum) % 64 + 64)
         return out;
     /* this gauge has an address from 001 to 016, so one that is no address is another one too */
     if (memcmp(request, gauge->address, 3) != 0)
         return out;
-    return v2 ? answer_v2(gauge, request, len, out) : answer_v1(gauge, request, len, out);
+    return is_digit(kind) ? answer_v2(gauge, request, len, out) : answer_v1(gauge, request, len, out);
 }
 
 static bool write_all(const uint8_t *bytes, const uint8_t *end)

@@ -2,8 +2,8 @@
 //! run, as ratios of speed: requests answered by the text gauge and by the OPG,
 //! and the CRC over 1,294 bytes. The rounds are short and the sides take turns;
 //! of all rounds (500 where none are given) each side's best counts. Then it
-//! measures the program `gauge` on captures, where it is built (`programs.rs`):
-//! its speed over that of the same gauge in C, whose replies have to be the same.
+//! measures the program `gauge` on captures (`programs.rs`): its speed over that
+//! of the same gauge in C. Before a row is timed, both sides have to answer alike.
 
 mod programs;
 #[path = "../../proved.rs"]
@@ -26,7 +26,27 @@ const CRC_BYTES: usize = 1294;
 const CRCS: usize = 100;
 
 fn main() -> ExitCode {
-    let rounds = std::env::args().nth(1).and_then(|word| word.parse().ok()).unwrap_or(500);
+    match rounds().and_then(measure) {
+        Ok(()) => ExitCode::SUCCESS,
+        Err(why) => {
+            eprintln!("measure: {why}");
+            ExitCode::FAILURE
+        }
+    }
+}
+
+/// How many rounds are asked for.
+fn rounds() -> Result<usize, String> {
+    let Some(word) = std::env::args().nth(1) else {
+        return Ok(500);
+    };
+    match word.parse() {
+        Ok(rounds) if rounds > 0 => Ok(rounds),
+        _ => Err(format!("'{word}' is no number of rounds, 1 or more")),
+    }
+}
+
+fn measure(rounds: usize) -> Result<(), String> {
     println!("best of {rounds} rounds; ratio: the proved code's speed over the reference's");
     let reads: Vec<Vec<u8>> = captures::reads().into_iter().cycle().take(REQUESTS).collect();
     requests("text gauge, a read of each command in turn", rounds, To::Text, 64, &reads);
@@ -37,12 +57,9 @@ fn main() -> ExitCode {
     crc("CRC over 1,294 bytes, against a bit at a time, unchanged", rounds, |bytes| crc_by_bits(bytes, black_box(0x8408)));
     let program = Path::new(concat!(env!("CARGO_MANIFEST_DIR"), "/../target/bin/gauge"));
     if !program.exists() {
-        println!("the program gauge is not built (rt check gauge)");
-    } else if let Err(error) = programs::measure(program) {
-        eprintln!("measure: {error}");
-        return ExitCode::FAILURE;
+        return Err("the program gauge is not built (rt check gauge)".to_string());
     }
-    ExitCode::SUCCESS
+    programs::measure(program).map_err(|error| error.to_string())
 }
 
 /// The OPG requests of a random sequence.
@@ -61,19 +78,43 @@ fn requests(name: &str, rounds: usize, to: To, lent: usize, requests: &[Vec<u8>]
     for request in requests {
         script::push_request(&mut script, to, lent, request);
     }
-    let mut memory = vec![0; REQUESTS * lent];
-    let (mut numbers, mut lens) = (vec![0; REQUESTS], vec![0; REQUESTS]);
+    let mut answers = Answers::none(lent);
+    let played = [true, false].map(|proved| {
+        let mut answers = Answers::none(lent);
+        answers.play(proved, &script);
+        answers
+    });
+    assert!(played[0] == played[1], "{name}: the proved side and the reference answer differently");
     compare(name, rounds, (REQUESTS * PLAYS, "requests"), |proved| {
         for _ in 0..PLAYS {
-            let (script, memory) = (black_box(&script), black_box(&mut memory));
-            let calls = if proved {
-                proved::play(script, memory, &mut numbers, &mut lens)
-            } else {
-                Gauges::start().play(script, memory, &mut numbers, &mut lens)
-            };
-            assert_eq!(calls, REQUESTS);
+            answers.play(proved, black_box(&script));
         }
     });
+}
+
+/// What the requests of a script are answered.
+#[derive(PartialEq)]
+struct Answers {
+    memory: Vec<u8>,
+    numbers: Vec<u16>,
+    lens: Vec<u16>,
+}
+
+impl Answers {
+    fn none(lent: usize) -> Answers {
+        Answers { memory: vec![0; REQUESTS * lent], numbers: vec![0; REQUESTS], lens: vec![0; REQUESTS] }
+    }
+
+    /// Plays the script from factory settings, on the proved side or on the reference's.
+    fn play(&mut self, proved: bool, script: &[u8]) {
+        let memory = black_box(&mut self.memory);
+        let calls = if proved {
+            proved::play(script, memory, &mut self.numbers, &mut self.lens)
+        } else {
+            Gauges::start().play(script, memory, &mut self.numbers, &mut self.lens)
+        };
+        assert_eq!(calls, REQUESTS);
+    }
 }
 
 /// The reference's CRC with a polynomial that the compiler does not know: so it

@@ -22,7 +22,8 @@ const PEER_SOURCE: &str = concat!(env!("CARGO_MANIFEST_DIR"), "/peer/gauge.c");
 /// Measures the program on three captures.
 pub fn measure(gauge: &Path) -> io::Result<()> {
     let tools = Tools::find(gauge)?;
-    println!("captures of 50 MB, best of {RUNS} runs; ratio: the proved program's speed over the other's");
+    let megabytes = CAPTURE_BYTES / 1_000_000;
+    println!("captures of {megabytes} MB, best of {RUNS} runs; ratio: the proved program's speed over the other's");
     let repeated = |requests: &[Vec<u8>]| captures::repeated(requests, CAPTURE_BYTES);
     tools.measure("program gauge, a read of each command in turn", &repeated(&captures::reads()))?;
     tools.measure("program gauge, accepted requests at random", &repeated(&captures::accepted_round()))?;
@@ -47,7 +48,7 @@ impl Tools {
         let folder = Folder::make()?;
         let gauge = Program { name: "gauge", path: gauge.to_path_buf() };
         let peer = compile_peer(folder.file("peer"))?;
-        let valgrind = is_found(Command::new("valgrind").arg("--version").stdout(Stdio::null()).status())?.is_some();
+        let valgrind = status_if_found(Command::new("valgrind").arg("--version").stdout(Stdio::null()).status())?.is_some();
         if !valgrind {
             println!("valgrind is not found: instructions are not counted");
         }
@@ -96,6 +97,9 @@ impl Tools {
     }
 
     fn count_instructions(&self, name: &str, part: &Path, requests: usize) -> io::Result<()> {
+        if requests == 0 {
+            return Err(failed("counting instructions", "the part has no request"));
+        }
         let gauge = self.instructions(&self.gauge, part)? / requests as f64;
         match &self.peer {
             Some(peer) => {
@@ -122,10 +126,11 @@ impl Tools {
         count.ok_or_else(|| io::Error::other(format!("callgrind gave no count of {}", program.name)))
     }
 
-    /// Prints the program's speed beside the reference's, on the capture that was
-    /// measured last, and the memory that it had resident.
+    /// Prints the program's speed beside the reference's, and the memory that it
+    /// had resident.
     fn measure_reference(&self, name: &str, capture: &[u8]) -> io::Result<()> {
         let file = self.folder.file("capture");
+        fs::write(&file, capture)?;
         let (mut gauge_best, mut reference_best) = (Duration::MAX, Duration::MAX);
         for _ in 0..RUNS {
             gauge_best = gauge_best.min(self.gauge.time(&file)?);
@@ -136,10 +141,10 @@ impl Tools {
             reference_best = reference_best.min(start.elapsed());
         }
         let (gauge, reference) = (speed(capture.len(), gauge_best), speed(capture.len(), reference_best));
+        let resident = self.gauge.resident_kb(&file)?.map_or("not known".to_string(), |kb| format!("{kb} kB"));
         println!(
-            "{name}: gauge {gauge:.1}, reference without input and output {reference:.1} MB/s, ratio {:.2}; resident {} kB",
-            gauge / reference,
-            self.gauge.resident_kb(&file)?
+            "{name}: gauge {gauge:.1}, reference without input and output {reference:.1} MB/s, ratio {:.2}; resident {resident}",
+            gauge / reference
         );
         Ok(())
     }
@@ -178,10 +183,11 @@ impl Program {
         Ok(time)
     }
 
-    /// The most memory that it has resident in a run, looked at every millisecond.
-    fn resident_kb(&self, file: &Path) -> io::Result<u64> {
+    /// The most memory that it has resident in a run, looked at every millisecond,
+    /// where the system tells it.
+    fn resident_kb(&self, file: &Path) -> io::Result<Option<u64>> {
         let mut child = self.on(file)?.spawn().map_err(|error| failed(self.name, error))?;
-        let mut most = 0;
+        let mut most = None;
         let status = loop {
             most = most.max(resident_kb(&child));
             if let Some(status) = child.try_wait()? {
@@ -195,10 +201,10 @@ impl Program {
 }
 
 /// The most memory that the process has had resident so far (on Linux).
-fn resident_kb(child: &Child) -> u64 {
-    let status = fs::read_to_string(format!("/proc/{}/status", child.id())).unwrap_or_default();
-    let line = status.lines().find_map(|line| line.strip_prefix("VmHWM:"));
-    line.and_then(|words| words.split_whitespace().next()?.parse().ok()).unwrap_or(0)
+fn resident_kb(child: &Child) -> Option<u64> {
+    let status = fs::read_to_string(format!("/proc/{}/status", child.id())).ok()?;
+    let words = status.lines().find_map(|line| line.strip_prefix("VmHWM:"))?;
+    words.split_whitespace().next()?.parse().ok()
 }
 
 /// Compiles the C peer by the command in CC, or else `cc`; says so where there is
@@ -208,7 +214,7 @@ fn compile_peer(path: PathBuf) -> io::Result<Option<Program>> {
     let mut words = command.split_whitespace();
     let compiler = words.next().unwrap_or("cc");
     let compiled = Command::new(compiler).args(words).args(["-O3", "-o"]).arg(&path).arg(PEER_SOURCE).status();
-    let Some(status) = is_found(compiled)? else {
+    let Some(status) = status_if_found(compiled)? else {
         println!("no C compiler is found ({compiler}): the C peer is left out, and the ratios to it");
         return Ok(None);
     };
@@ -217,7 +223,7 @@ fn compile_peer(path: PathBuf) -> io::Result<Option<Program>> {
 }
 
 /// The status of a program that was run, or None where there is none.
-fn is_found(status: io::Result<ExitStatus>) -> io::Result<Option<ExitStatus>> {
+fn status_if_found(status: io::Result<ExitStatus>) -> io::Result<Option<ExitStatus>> {
     match status {
         Err(error) if error.kind() == ErrorKind::NotFound => Ok(None),
         status => status.map(Some),

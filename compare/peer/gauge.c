@@ -1,4 +1,5 @@
-/* The text gauge of document 01 in plain C: the yardstick for the speed of the proved program `gauge`.
+/* The text gauge of document 01, with the changes of document 02 so far (Item 6), in plain C: the yardstick for the
+ * speed of the proved program `gauge`.
  *
  * It does what `gauge` does without arguments: it answers text requests from standard input, each up to its CR, on
  * standard output, from factory settings. It is written as a C programmer would for speed: one pass over a request,
@@ -35,7 +36,7 @@ struct gauge {
     uint8_t cm, cc, fc;
     bool direct; /* ST: D `from`, or F `from` T `to` */
     struct number from, to;
-    uint8_t stream[24]; /* SM, as text */
+    uint8_t stream[16]; /* SM, as text: `4` and six sources have 15 characters */
     uint8_t stream_len;
     bool unlocked; /* by V1's c1 */
     /* the readings of source 0 and T2, and FS; no request changes them, and here there is no bench */
@@ -328,22 +329,30 @@ static int write_st(struct gauge *gauge, const uint8_t *data, size_t count)
     return ACCEPTED;
 }
 
-/* One source of SM's list: 0, or SYNTAX where its form is wrong, or RANGE where the gauge has no such source. */
-static inline int judge_source(const uint8_t *name, size_t count)
+/* The sources as bits of a set: a digit, or T and a digit. */
+#define DIGIT(digit) (1u << ((digit) - '0'))
+#define T_DIGIT(digit) (DIGIT(digit) << 10)
+#define SOURCES (DIGIT('0') | DIGIT('1') | DIGIT('2') | DIGIT('6') | DIGIT('7') | T_DIGIT('2') | T_DIGIT('6'))
+/* Two digits: of the form of a source, and none. */
+#define TWO_DIGITS (1u << 20)
+
+/* One entry of SM's list as a bit; no bit where its form is wrong. */
+static inline uint32_t source_bit(const uint8_t *name, size_t count)
 {
     if (count == 1 && is_digit(name[0]))
-        return name[0] <= '2' || name[0] == '6' || name[0] == '7' ? ACCEPTED : RANGE;
-    if (count == 2 && is_digit(name[1]) && (is_digit(name[0]) || name[0] == 'T'))
-        return name[0] == 'T' && (name[1] == '2' || name[1] == '6') ? ACCEPTED : RANGE;
-    return SYNTAX;
+        return DIGIT(name[0]);
+    if (count == 2 && is_digit(name[1]) && name[0] == 'T')
+        return T_DIGIT(name[1]);
+    return count == 2 && is_digit(name[1]) && is_digit(name[0]) ? TWO_DIGITS : 0;
 }
 
-/* SM: a mode, and D and a source so many times. The form of the whole comes before what lies outside. */
+/* SM: a mode, and D and a source so many times. The form of the whole comes before what lies outside, and that before
+ * a source that stands twice; 0 stands in each line already. */
 static int write_sm(struct gauge *gauge, const uint8_t *data, size_t count)
 {
     const uint8_t *at = data + 1, *end = data + count;
-    int sources = 0;
-    bool outside = false;
+    uint32_t seen = DIGIT('0');
+    bool repeated = false;
 
     if (count == 0 || !is_digit(data[0]) || (count > 1 && data[0] == '0'))
         return SYNTAX;
@@ -351,18 +360,20 @@ static int write_sm(struct gauge *gauge, const uint8_t *data, size_t count)
         return SYNTAX;
     while (at < end) {
         const uint8_t *name = ++at;
-        int refusal;
+        uint32_t bit;
 
         while (at < end && *at != 'D')
             at++;
-        refusal = judge_source(name, at - name);
-        if (refusal == SYNTAX)
+        bit = source_bit(name, at - name);
+        if (bit == 0)
             return SYNTAX;
-        outside |= refusal != ACCEPTED;
-        sources++;
+        repeated |= (seen & bit) != 0;
+        seen |= bit;
     }
-    if (outside || sources > 7 || (data[0] != '0' && data[0] != '4'))
+    if ((seen & ~SOURCES) != 0 || (data[0] != '0' && data[0] != '4'))
         return RANGE;
+    if (repeated)
+        return LOGIC;
     memcpy(gauge->stream, data, count);
     gauge->stream_len = count;
     return ACCEPTED;
@@ -471,7 +482,7 @@ static uint8_t *put_value(uint8_t *out, const struct gauge *gauge, enum command 
     case CC: return put_digit(out, gauge->cc);
     case FC: return put_digit(out, gauge->fc);
     case ST: return put_transition(out, gauge);
-    default: memcpy(out, gauge->stream, 24); return out + gauge->stream_len;
+    default: memcpy(out, gauge->stream, 16); return out + gauge->stream_len;
     }
 }
 

@@ -1,7 +1,9 @@
-//! An independent implementation of the rules of document 01, used as the
-//! reference that another implementation is compared with.
+//! An independent implementation of the rules of document 01 and the changes of
+//! document 02 so far (Item 6), used as the reference that another
+//! implementation is compared with.
 
 pub mod captures;
+pub mod met;
 pub mod opg;
 pub mod random;
 pub mod replay;

@@ -4,10 +4,12 @@
 use crate::opg;
 use crate::replay::{to_hex, World};
 use crate::text::frame::{build_v1, build_v2, checksum, CR};
+use crate::text::gauge::LINE_ROOM;
 use crate::text::request::{read_request, COMMANDS};
 use crate::text::SOURCES;
 use std::collections::VecDeque;
 
+mod lists;
 mod writes;
 
 /// An xorshift generator.
@@ -225,28 +227,6 @@ impl Generator {
         }
     }
 
-    fn stream_text(&mut self) -> String {
-        let mode = match self.random.below(12) {
-            0 => self.random.pick(&["1", "2", "3", "5", "9", "a", "", "04", "40"]),
-            1 => "0",
-            _ => "4",
-        };
-        if mode == "0" && self.random.chance(80) {
-            return mode.to_string();
-        }
-        let count = self.random.pick(&[0, 1, 1, 2, 2, 3, 4, 5, 6, 7, 7, 8, 9]);
-        let odd = self.random.chance(25);
-        let mut text = mode.to_string();
-        for _ in 0..count {
-            text.push('D');
-            let source = self.random.pick(&SOURCES);
-            let strange = ["07", "00", "3", "4", "40", "99", "T1", "T0", "T", "123", "", "TT", "d7", "T22", "7T"];
-            let strange = self.random.pick(&strange);
-            text.push_str(if odd && self.random.chance(30) { strange } else { source });
-        }
-        text
-    }
-
     /// Data for a write of this command, or for a reply to its read.
     fn data_for(&mut self, command: &str) -> String {
         match command {
@@ -348,7 +328,7 @@ impl Generator {
     }
 
     fn line_call(&mut self) {
-        let lent = self.lent(96);
+        let lent = self.lent(LINE_ROOM);
         self.push(format!("line {lent}"));
     }
 
@@ -392,15 +372,19 @@ impl Generator {
         self.push_text(&build_v1(address, b"C1"));
     }
 
-    /// A list, readings and the line.
+    /// A list that is taken, readings and the line; then another list, good or
+    /// bad, and what is held.
     fn stream_sequence(&mut self) {
         let address = self.world.text.settings.address;
-        let list = self.stream_text();
+        let count = self.random.pick(&[1, 2, 3, 4, 5, 6, 6]);
+        let list = self.good_stream_text(count);
         self.push_text(&build_v2(address, b'2', *b"SM", list.as_bytes()));
         for _ in 0..self.random.below(4) {
             self.bench_call();
         }
         self.line_call();
+        let other = self.stream_text();
+        self.push_text(&build_v2(address, b'2', *b"SM", other.as_bytes()));
         self.push_text(&build_v2(address, b'0', *b"SM", b""));
         self.line_call();
     }
@@ -465,7 +449,7 @@ impl Generator {
     // Edges that plain chance seldom meets
 
     fn edge_call(&mut self) {
-        match self.random.below(9) {
+        match self.random.below(12) {
             0 => self.edge_of_shape(),
             1 => self.edge_of_order(),
             2..=3 => self.edge_of_data(),
@@ -473,6 +457,7 @@ impl Generator {
             5 => self.edge_of_reply(),
             6 => self.edge_of_opg(),
             7 => self.edge_of_opg_reply(),
+            8..=10 => self.edge_of_list(),
             _ => self.longest_line(),
         }
     }
@@ -494,7 +479,10 @@ impl Generator {
             1 => build_v1(address, b"c0000100"),
             2 => build_v1(address, b"c00001000"),
             3 => build_v2(address, b'2', *b"SM", &b"4D7".repeat(33)),
-            _ => build_v2(address, b'2', *b"SM", format!("4{}", "D7".repeat(49)).as_bytes()),
+            _ => {
+                let last = self.random.pick(&["D7", "D7", "D0", "D9", "DT"]);
+                build_v2(address, b'2', *b"SM", format!("4{}{last}", "D7".repeat(48)).as_bytes())
+            }
         };
         let inner = 7.min(bytes.len() - 3);
         match self.random.below(6) {
@@ -535,6 +523,9 @@ impl Generator {
             ("SM", "4D123"), ("SM", "4D07"), ("SM", "0D99"), ("SM", "0D7"), ("SM", "0D"), ("SM", "2D"), ("SM", "2D7"),
             ("SM", "4"), ("SM", "4D7D7D7D7D7D7D7"), ("SM", "4D7D7D7D7D7D7D7D7"), ("SM", "4D7D7D7D7D7D7D7D7D"),
             ("SM", "4D7D7D7D7D7D7D7D07"), ("SM", "4DT12"), ("SM", "44"), ("SM", "4D0D0D0"), ("SM", "5"), ("SM", "4DT6D1"),
+            ("SM", "4D0"), ("SM", "4D7D7"), ("SM", "4DT2DT2"), ("SM", "4D2DT2"), ("SM", "4D6DT6"), ("SM", "4D7D7D3"),
+            ("SM", "4D0D5"), ("SM", "4D7D7X"), ("SM", "0D7D7"), ("SM", "3D7D7"), ("SM", "4D7D7D7D7D7D7D7D9"),
+            ("SM", "4D1D2D6D7DT2DT6"), ("SM", "4D1D2D6D7DT2DT6D0"), ("SM", "4D1D2D6D7DT2DT6D1"),
             ("C1", "1e000"), ("C1", "1e00"), ("C1", "1.000000"), ("C1", "1.00000"), ("C1", "0000001"), ("C1", "000001"),
             ("C1", "0.205"), ("C1", "8.000e0"), ("C1", "0e99"), ("C1", "-0"), ("C1", "-1"), ("C1", "1e-0"), ("C1", "800e-02"),
             ("DA", "000"), ("DA", "017"), ("DA", "016"), ("DA", "17"), ("DU", "mbar "), ("DU", "hPA"), ("DU", "Pa"),
@@ -565,9 +556,12 @@ impl Generator {
             "M999999", "M000000", "M1", "M0", "M", "M_LOGIC", "M_RANGE", "MSYNTAX", "NO_DEF", "NO_DEX", "M99992"];
         let v2 = [("FN", "0"), ("FN", "1"), ("FN", "2"), ("FN", "3"), ("FN", "01"), ("FS", "3"), ("FS", "4"), ("CM", "1"),
             ("CM", "2"), ("ST", "F15T5"), ("ST", "F0T5"), ("ST", "F5T5"), ("SM", "4D7D7D7D7D7D7D7"), ("SM", "4D7D7D7D7D7D7D7D7"),
-            ("SM", "0D7"), ("SM", "0"), ("DA", "016"), ("DA", "017"), ("DA", "000"), ("T2", "125.00"), ("T2", "125.01"),
-            ("T2", "-40"), ("T2", "-40.01"), ("T2", "27.9"), ("T2", "27.915"), ("T2", "UR"), ("MV", "0"), ("MV", "UR"),
-            ("MV", "1e-10"), ("MV", "9.99999e9"), ("MV", "1e10"), ("MV", "973.4"), ("C1", "8.000"), ("C1", "8.01"), ("C1", "1")];
+            ("SM", "4D7D7"), ("SM", "4D0"), ("SM", "4D7D7D9"), ("SM", "4D7D7X"), ("SM", "4D1D2D6D7DT2DT6"), ("SM", "4"),
+            ("SM", "4D1D2D6D7DT2DT6D0"), ("SM", "4D7D7D7D7D7D7D7D9"), ("SM", "0D7"), ("SM", "0"),
+            ("DA", "016"), ("DA", "017"), ("DA", "000"),
+            ("T2", "125.00"), ("T2", "125.01"), ("T2", "-40"), ("T2", "-40.01"), ("T2", "27.9"), ("T2", "27.915"), ("T2", "UR"),
+            ("MV", "0"), ("MV", "UR"), ("MV", "1e-10"), ("MV", "9.99999e9"), ("MV", "1e10"), ("MV", "973.4"),
+            ("C1", "8.000"), ("C1", "8.01"), ("C1", "1")];
         let (request, reply) = if self.random.chance(40) {
             (build_v1(address, b"M"), build_v1(address, self.random.pick(&v1).as_bytes()))
         } else {
@@ -619,13 +613,40 @@ impl Generator {
         self.push(format!("opgreply {} {}", to_hex(&request), to_hex(&reply)));
     }
 
-    /// Eight values and 96 bytes.
+    /// A list of sources, for each that judges one.
+    fn edge_of_list(&mut self) {
+        let address = self.world.text.settings.address;
+        let data = self.stream_text();
+        let write = build_v2(address, b'2', *b"SM", data.as_bytes());
+        match self.random.below(4) {
+            0 => self.push_text(&write),
+            1 => self.push(format!("request {}", to_hex(&write))),
+            2 => {
+                let read = build_v2(address, b'0', *b"SM", b"");
+                let reply = build_v2(address, b'1', *b"SM", data.as_bytes());
+                self.push(format!("reply {address} {} {}", to_hex(&read), to_hex(&reply)));
+            }
+            _ => {
+                let words = self.stream_words();
+                self.push(format!("write2 109 {address} SM {words}"));
+            }
+        }
+    }
+
+    /// Seven values and 71 bytes.
     fn longest_line(&mut self) {
         let address = self.world.text.settings.address;
-        self.push("bench 0 1.23456e-9".to_string());
-        self.push("bench 7 -1.23456e-9".to_string());
-        self.push_text(&build_v2(address, b'2', *b"SM", b"4D7D7D7D7D7D7D7"));
-        let lent = self.random.pick(&[95, 96, 97, 256]);
+        for source in SOURCES {
+            let value = match source {
+                "7" => "-1.23456e-9",
+                "T2" | "T6" => self.random.pick(&["-40", "125", "-12.34"]),
+                _ => "1.23456e-9",
+            };
+            self.push(format!("bench {source} {value}"));
+        }
+        let list = self.good_stream_text(6);
+        self.push_text(&build_v2(address, b'2', *b"SM", list.as_bytes()));
+        let lent = self.random.pick(&[LINE_ROOM - 1, LINE_ROOM, LINE_ROOM + 1, 256]);
         self.push(format!("line {lent}"));
     }
 

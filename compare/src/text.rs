@@ -39,9 +39,6 @@ pub fn source_named(name: &[u8]) -> Option<usize> {
     SOURCES.iter().position(|known| known.as_bytes() == name)
 }
 
-/// The most sources in an SM list.
-pub const MOST_SOURCES: usize = 7;
-
 /// The pressure units, in the order of V1's numbers.
 #[derive(Clone, Copy, PartialEq, Eq, Debug)]
 pub enum Unit {

@@ -6,7 +6,10 @@ use crate::opg;
 use crate::replay::read_number;
 use crate::text::decimal::Decimal;
 use crate::text::request::{Command, Request, Stream, Transition};
-use crate::text::{Unit, MOST_SOURCES, SOURCES};
+use crate::text::{Unit, SOURCES};
+
+/// The codes of a typed list.
+const CODES: usize = 7;
 
 /// A V2 request; None where the words are none.
 pub fn v2(words: &[&str]) -> Option<Request> {
@@ -82,8 +85,8 @@ fn number(sign: &str, mantissa: &str, place: &str) -> Option<Decimal> {
     Some(Decimal::new(negative, u64::from(wide(mantissa)?), i32::from(byte(place)?) - 14))
 }
 
-/// Seven codes, of which the first COUNT count. A count above seven asks for
-/// an eighth entry, which stands nowhere: any source will do for it.
+/// Seven codes, of which the first COUNT count: all of them where it is above
+/// seven.
 fn stream(mode: &str, count: &str, codes: &[&str]) -> Option<Stream> {
     let mode = match mode {
         "0" => 0,
@@ -91,15 +94,11 @@ fn stream(mode: &str, count: &str, codes: &[&str]) -> Option<Stream> {
         _ => return None,
     };
     let count = wide(count)? as usize;
-    if codes.len() != MOST_SOURCES {
+    if codes.len() != CODES {
         return None;
     }
     let codes: Option<Vec<u8>> = codes.iter().map(|code| byte(code)).collect();
-    let mut list: Vec<usize> = codes?.into_iter().take(count).map(place_of).collect();
-    if count > MOST_SOURCES {
-        list.push(0);
-    }
-    Some(Stream { mode, list })
+    Some(Stream { mode, list: codes?.into_iter().take(count).map(place_of).collect() })
 }
 
 /// The place of a source's code, its digit, 8 for T2 and 9 for T6; past the

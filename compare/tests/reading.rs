@@ -1,5 +1,6 @@
-//! Every computed case of the close reading, C.1 to C.9. The cases are kept
-//! in tests/reading_c.txt, word for word.
+//! Every computed case of the close reading of document 01, C.1 to C.9. The cases
+//! are kept in tests/reading_c.txt, word for word; `CHANGED` has the answers of
+//! those that document 02 has changed since.
 
 use compare::opg;
 use compare::replay::{to_hex, World};
@@ -7,13 +8,52 @@ use compare::text::decimal::Decimal;
 use compare::text::master::{self, Reply, Value};
 use compare::text::request::{Command, Request, Stream, Transition, COMMANDS};
 use compare::text::{source_named, Unit};
+use std::sync::LazyLock;
 
 const CASES: &str = include_str!("reading_c.txt");
+
+/// The cases that document 02 has changed: the case, the start of its line, and
+/// the new end of that line.
+const CHANGED: [(&str, &str, &str); 12] = [
+    // Item 6: a repeat and a listed 0 are LOGIC, and no count of entries is RANGE.
+    ("C062", "     answer   ", "12 LOGIC; 0017SM06_LOGIC[<CR>"),
+    ("C063", "     answer   ", "12 LOGIC; 0017SM06_LOGIC[<CR>"),
+    ("C072", "     answer   ", "12 LOGIC; 0017SM06_LOGIC[<CR>"),
+    ("C160", "C160 write SM 4, eight entries  address 1    lent 109 -> ", "12  nothing"),
+    ("C193", "C193 read SM          0011SM174D7D7D7D7D7D7D7D7V<CR>           -> ", "12       -"),
+    // 95 bytes are enough for a line.
+    ("C106", "     answer   ", "0; nothing, length 0"),
+    ("C113", "     answer   ", "0; 1e0F<CR> (5 bytes)"),
+    // The list of seven D7 is refused: SM stays 0, and there is no line.
+    ("C112", "     answer   ", "0; nothing, length 0"),
+    ("C134", "     0012SM154D7D7D7D7D7D7D7Z<CR>       -> ", "12  0017SM06_LOGIC[<CR>"),
+    ("C134", "     stream line (lent 95)              -> ", " 0  nothing"),
+    ("C134", "     stream line (lent 96)              -> ", " 0  nothing"),
+    ("C134", "     end: DA 001, DU mbar, C1 1.00, CM 1, CC 1, FC 0, ST F5e0T1.5e1, SM ", "0, FS 0, locked"),
+];
+
+/// The cases as they are now.
+static NOW: LazyLock<String> = LazyLock::new(|| {
+    CHANGED.iter().fold(CASES.to_string(), |text, (case, start, end)| changed(&text, case, start, end))
+});
+
+/// The text with one line of a case changed; the line has to be there, and to
+/// end in another way.
+fn changed(text: &str, case: &str, start: &str, end: &str) -> String {
+    let at_case = text.find(&format!("\n{case} ")).expect(case);
+    let length = text[at_case + 1..].find("\nC").map_or(text.len() - at_case, |length| length + 1);
+    let at = at_case + text[at_case..at_case + length].find(&format!("\n{start}")).expect(start) + 1;
+    let (before, line) = text.split_at(at);
+    let (old, after) = line.split_once('\n').expect(start);
+    let new = format!("{start}{end}");
+    assert_ne!(old, new);
+    format!("{before}{new}\n{after}")
+}
 
 /// The lines of one section.
 fn section(number: usize) -> Vec<&'static str> {
     let head = format!("## C.{number} ");
-    let after = CASES.split(&head).nth(1).expect("section");
+    let after = NOW.split(&head).nth(1).expect("section");
     after.split("\n## ").next().unwrap().lines().skip(1).collect()
 }
 

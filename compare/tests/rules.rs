@@ -1,5 +1,5 @@
-//! The marked rows and the edges of document 01, the printed examples of the
-//! sources, and laws that random calls have to keep.
+//! The marked rows and the edges of document 01 (as document 02 has them), the
+//! printed examples of the sources, and laws that random calls have to keep.
 
 use compare::opg;
 use compare::random::Generator;
@@ -9,6 +9,8 @@ use compare::text::frame::{self, build_v1, build_v2, checksum};
 use compare::text::gauge::Settings;
 use compare::text::master::{read_v1_reply, read_v2_reply, write, Reply, Value};
 use compare::text::request::{read_request, Command, Request, Stream};
+use compare::text::SOURCE_0;
+use std::collections::BTreeSet;
 
 /// A text frame without its CR.
 fn framed(text: &str) -> Vec<u8> {
@@ -60,7 +62,7 @@ fn the_nine_marked_rows() {
     for call in ["bench 0 973.4", "bench 7 0.1", "bench T2 23.25"] {
         assert_eq!(world.run(call), "0");
     }
-    assert_eq!(world.run("line 96"), reply(0, &framed("9.734e2;1e-1;23.25@")));
+    assert_eq!(world.run("line 71"), reply(0, &framed("9.734e2;1e-1;23.25@")));
     // C1's factory reply, LOGIC at factory, V1's factor.
     let mut world = World::start();
     assert_eq!(text(&mut world, &framed("0010C100U")), reply(0, &framed("0011C1041.00Y")));
@@ -80,8 +82,9 @@ fn the_nine_marked_rows() {
 
 #[test]
 fn the_edges() {
-    assert_eq!(write_number(b"SM", "4D7D7D7D7D7D7D7"), "0");
-    assert_eq!(write_number(b"SM", "4D7D7D7D7D7D7D7D7"), "11");
+    // Item 6: both lists hold a repeat; 01 had 0 and 11.
+    assert_eq!(write_number(b"SM", "4D7D7D7D7D7D7D7"), "12");
+    assert_eq!(write_number(b"SM", "4D7D7D7D7D7D7D7D7"), "12");
     assert_eq!(write_number(b"ST", "F5T5"), "12");
     assert_eq!(write_number(b"ST", "F5T5.00001"), "0");
     assert_eq!(write_number(b"ST", "F5T15"), "0");
@@ -216,7 +219,8 @@ fn script_answers_of_the_readers() {
 }
 
 /// A refused call leaves no trace, a silent one no byte; an accepted
-/// request, written and read again, is the same; the line keeps its bounds.
+/// request, written and read again, is the same; the list and the line keep
+/// their bounds.
 #[test]
 fn laws_on_random_calls() {
     for seed in 1..=4 {
@@ -228,6 +232,7 @@ fn laws_on_random_calls() {
             let out = world.run(&line);
             assert!(!out.ends_with("changed"), "{line}");
             check_trace(&line, &out, &before.0.settings, &world);
+            check_list(&world.text.settings.stream);
             if line.starts_with("opg ") && !out.starts_with("20 ") {
                 assert_eq!(world.opg, before.1, "{line}");
             }
@@ -248,11 +253,19 @@ fn check_trace(line: &str, out: &str, before: &Settings, world: &World) {
     }
 }
 
+/// At most six sources, no source twice, no `0`; none while the mode is 0.
+fn check_list(stream: &Stream) {
+    let different: BTreeSet<&usize> = stream.list.iter().collect();
+    assert!(stream.list.len() <= 6 && different.len() == stream.list.len(), "{stream:?}");
+    assert!(!stream.list.contains(&SOURCE_0) && (stream.mode == 4 || stream.list.is_empty()), "{stream:?}");
+}
+
 fn check_bounds(line: &str, out: &str) {
     let length: usize = out.split(' ').nth(1).and_then(|word| word.parse().ok()).unwrap_or(0);
     match line.split(' ').next() {
-        Some("text") => assert!(length <= 32, "{line}"),
-        Some("line") => assert!(length <= 96, "{line}"),
+        // ST with F and T is the longest reply.
+        Some("text") => assert!(length <= 30, "{line}"),
+        Some("line") => assert!(length <= 71, "{line}"),
         Some("opg") => assert!(length <= 16, "{line}"),
         _ => (),
     }

@@ -9,12 +9,14 @@
 #[path = "../proved.rs"]
 mod proved;
 
+use compare::met;
 use compare::opg;
 use compare::random::{Generator, Random};
 use compare::replay::{lines_of, read_hex, to_hex, World};
 use compare::script::{self, Gauges, To};
 use compare::text::{master, request};
 use std::collections::BTreeMap;
+use std::fmt::Display;
 use std::io::{self, Write};
 use std::process::{Command, Output, Stdio};
 
@@ -37,6 +39,8 @@ struct Counts {
     numbers: BTreeMap<u16, usize>,
     /// How often a typed request got each number, by `replay`.
     written: BTreeMap<u16, usize>,
+    /// What its lines showed of lists of sources.
+    lists: BTreeMap<String, usize>,
 }
 
 /// What a sequence of lines comes to: a script, and requests to rewrite.
@@ -49,7 +53,7 @@ struct Sequence {
 
 /// The numbers that a writer answers.
 const WRITTEN: [u16; 10] = [0, 1, 4, 9, 10, 11, 12, 20, 21, 1002];
-/// From so many lines on, each of them is to come up.
+/// From so many lines on, each of them is to come up, and each kind of list.
 const ENOUGH: usize = 50_000;
 /// The fewest lines that `replay` plays.
 const FEWEST: usize = 2000;
@@ -104,6 +108,7 @@ fn report(counts: &Counts) {
     println!("CRCs: {}", counts.crcs);
     println!("lines of scripts, by the program replay: {}", counts.lines);
     println!("typed requests written, by number: {}", listed(&counts.written));
+    println!("lists of sources and the line: {}", listed(&counts.lists));
     println!("disagreements: {}", counts.disagreements);
 }
 
@@ -123,6 +128,7 @@ fn all_compared(counts: &Counts, least: usize) -> bool {
     if least >= ENOUGH {
         let absent = WRITTEN.iter().filter(|number| !counts.written.contains_key(number));
         missing.extend(absent.map(|number| format!("a writer's {number}")));
+        missing.extend(met::all().into_iter().filter(|list| !counts.lists.contains_key(list)));
     }
     for part in &missing {
         println!("not compared: {part}");
@@ -208,6 +214,9 @@ fn hold_replay(counts: &mut Counts, program: &str, seed: u64, lines: usize) -> i
             let number = shown(right).split(' ').next().and_then(|word| word.parse().ok()).unwrap_or(u16::MAX);
             *counts.written.entry(number).or_default() += 1;
         }
+        if let Some(list) = met::by(&shown(call), &shown(right)) {
+            *counts.lists.entry(list).or_default() += 1;
+        }
         counts.lines += 1;
     }
     note(counts, output.stdout == expected, || {
@@ -231,9 +240,9 @@ fn run(program: &str, input: Vec<u8>) -> io::Result<Output> {
     Ok(output)
 }
 
-/// How often each number occurred, as `number: times`.
-fn listed(numbers: &BTreeMap<u16, usize>) -> String {
-    let each: Vec<String> = numbers.iter().map(|(number, times)| format!("{number}: {times}")).collect();
+/// How often each occurred, as `which: times`.
+fn listed(counts: &BTreeMap<impl Display, usize>) -> String {
+    let each: Vec<String> = counts.iter().map(|(which, times)| format!("{which}: {times}")).collect();
     each.join(", ")
 }
 

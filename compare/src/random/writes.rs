@@ -39,7 +39,7 @@ impl Generator {
             11..=12 => format!("ST D {}", self.st_number()),
             13..=14 => format!("ST F {} T {}", self.st_number(), self.st_number()),
             15..=16 => self.close_ends(),
-            _ => self.sm_words(),
+            _ => format!("SM {}", self.stream_words()),
         }
     }
 
@@ -82,26 +82,6 @@ impl Generator {
         let other = mantissa - 1 + self.random.below(3);
         let (other, lower) = self.random.pick(&[(other, 0), (other * 10, 1), (other * 1000, 3), (other * 10 + 1, 1)]);
         format!("ST F + {mantissa} {place} T + {other} {}", place - lower)
-    }
-
-    fn sm_words(&mut self) -> String {
-        let mode = if self.random.chance(25) { 0 } else { 4 };
-        let count = match self.random.below(12) {
-            0 => self.random.pick(&[8, 9, 255, 256, 65536, 4_294_967_295]),
-            1..=3 => 0,
-            _ => self.random.below(9),
-        };
-        let odd = self.random.chance(30);
-        let mut text = format!("SM {mode} {count}");
-        for _ in 0..7 {
-            let code = if odd && self.random.chance(25) {
-                self.random.pick(&[3, 4, 5, 10, 48, 84, 255])
-            } else {
-                self.random.pick(&[0, 1, 2, 6, 7, 8, 9])
-            };
-            text.push_str(&format!(" {code}"));
-        }
-        text
     }
 
     fn v1_words(&mut self) -> String {

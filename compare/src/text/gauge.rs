@@ -69,7 +69,9 @@ pub enum BenchValue {
 }
 
 pub const LEAST_ROOM: usize = 64;
-pub const LINE_ROOM: usize = 96;
+/// The longest line: sources 0, 1, 2 and 6, then 7, T2 and T6, six `;`,
+/// checksum and CR.
+pub const LINE_ROOM: usize = 4 * 10 + 11 + 2 * 6 + 6 + 2;
 
 #[derive(Clone, PartialEq, Eq, Debug)]
 pub struct TextGauge {

@@ -107,6 +107,12 @@ impl Stream {
         let entries = self.list.iter().map(|source| format!("D{}", SOURCES[*source]));
         format!("{}{}", self.mode, entries.collect::<String>())
     }
+
+    /// Whether a source stands twice in the line: source 0, then the list.
+    pub fn repeats(&self) -> bool {
+        let list = &self.list;
+        list.iter().enumerate().any(|(at, source)| *source == SOURCE_0 || list[..at].contains(source))
+    }
 }
 
 /// The typed requests of V2 and V1.
@@ -236,8 +242,10 @@ fn judge_stream(stream: &Stream) -> u16 {
     let unknown = stream.list.iter().any(|source| *source >= SOURCES.len());
     if stream.mode > 9 || (stream.mode == 0 && !stream.list.is_empty()) {
         SYNTAX
-    } else if !matches!(stream.mode, 0 | 4) || unknown || stream.list.len() > MOST_SOURCES {
+    } else if !matches!(stream.mode, 0 | 4) || unknown {
         RANGE
+    } else if stream.repeats() {
+        LOGIC
     } else {
         ACCEPTED
     }
@@ -303,20 +311,28 @@ fn transition_of_form(data: &[u8]) -> Option<Transition> {
     }
 }
 
-/// The mode and the list of SM: the form over the whole data first.
+/// The mode and the list of SM: the form over the whole data first, then the
+/// sources, then repeats.
 pub fn read_sm(data: &[u8]) -> Result<Stream, u16> {
     let (mode, rest) = data.split_first().ok_or(SYNTAX)?;
     let entries = entries_of_form(rest).ok_or(SYNTAX)?;
     match mode {
         b'0' if entries.is_empty() => Ok(Stream { mode: 0, list: Vec::new() }),
         b'0' => Err(SYNTAX),
-        b'4' if entries.len() > MOST_SOURCES => Err(RANGE),
-        b'4' => {
-            let list: Option<Vec<usize>> = entries.into_iter().map(source_named).collect();
-            list.map(|list| Stream { mode: 4, list }).ok_or(RANGE)
-        }
+        b'4' => read_list(entries),
         b'1'..=b'9' => Err(RANGE),
         _ => Err(SYNTAX),
+    }
+}
+
+/// The list of mode 4: RANGE for an unknown source, then LOGIC for a repeat.
+fn read_list(entries: Vec<&[u8]>) -> Result<Stream, u16> {
+    let list: Option<Vec<usize>> = entries.into_iter().map(source_named).collect();
+    let stream = Stream { mode: 4, list: list.ok_or(RANGE)? };
+    if stream.repeats() {
+        Err(LOGIC)
+    } else {
+        Ok(stream)
     }
 }
 

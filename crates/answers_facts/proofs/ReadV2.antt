@@ -36,6 +36,7 @@ use Rattle.forms.specs.declared.Ends.{Ends}
 use Rattle.forms.specs.declared.Ends.the-variants.{None, One}
 use Rattle.forms.specs.declared.Verdict.{Verdict}
 use Rattle.forms.specs.declared.Verdict.the-variants as verdict
+use Rattle.requests.specs.Command.{commandText}
 use Rattle.requests.specs.declared.Command.{Command}
 use Rattle.requests.specs.declared.Command.the-variants.{MV, T2, FN, FS, Of}
 use Rattle.requests.specs.declared.RequestV2.{RequestV2}
@@ -47,7 +48,7 @@ use Rattle.replies_v2_values.specs.declared.ReadV2.{ReadV2}
 use Rattle.replies_v2_values.specs.declared.ReadV2.the-variants.{Read}
 use Rattle.replies_v2.specs.ReplyV2.{errorReply, doneReply, dataReply, bodyReply, readV2, readShownV2}
 use Rattle.answers_facts.specs.Rows.{Told}
-use Rattle.answers_facts.specs.ReadV2.{readNumber, isRead, unmeasured, oneDigit, badValue, tooLow, beyond, noDegrees, outside, errorText, badData, outsideData}
+use Rattle.answers_facts.specs.ReadV2.{readNumber, isRead, unmeasured, oneDigit, badValue, tooLow, beyond, noDegrees, outside, errorText, badData, outsideData, repeated, repeatedData}
 use Rattle.answers_facts.specs.Theorems.{ReplyNumberV2}
 use Rattle.answers_facts.proofs.Rows.{row, to, through}
 use Rattle.readings.specs.Reading.{underText, overText}
@@ -71,7 +72,10 @@ read (Holds x) = record { number-is = refl; exactly = refl }
 read Done = record { number-is = refl; exactly = refl }
 read (Error e) = record { number-is = refl; exactly = refl }
 
--- the two rows of data, and that nothing is 11
+-- the rows of data, and those of all but SM's: nothing is 12
+abbrev all : Bool → Bool → Bool → ℕ
+all b o t = pick b 10 (pick o 11 (pick t 12 0))
+
 abbrev rows : Bool → Bool → ℕ
 rows b o = pick b 10 (pick o 11 0)
 
@@ -200,14 +204,27 @@ digit-low setting most s =
     let P : Digit → Type 0 = λ (r : Digit). Judged (digitOf setting r) in
     each P _ (Digit.Refused 10) _ (λ _. syntax) (λ _. each P _ (Digit.Refused 10) _ (λ _. syntax) (λ _. each P _ (Digit.Refused 11) _ (λ _. range) (λ _. tt)))
 
-stream-low : (s : List ℕ) (n : ℕ) → Judged (streamOf s n)
+-- SM's list: LOGIC too
+abbrev JudgedList : Verdict → Type 0
+JudgedList (verdict.Set x) = Unit {0}
+JudgedList (verdict.Refused k) = Low k ⊎ (k ≡ 12)
+
+held-list : (v : Verdict) → JudgedList v → Numbered (heldReply v) (all (eqb (verdictNumber v) 10) (eqb (verdictNumber v) 11) (eqb (verdictNumber v) 12))
+unfolding heldReply pick
+held-list (verdict.Set x) j = read _
+held-list (verdict.Refused k) (inl (inl e)) = rw e (refused 10 refl)
+held-list (verdict.Refused k) (inl (inr e)) = rw e (refused 11 refl)
+held-list (verdict.Refused k) (inr e) = rw e (refused 12 refl)
+
+stream-judged : (s : List ℕ) (n : ℕ) → JudgedList (streamOf s n)
 unfolding streamOf
-stream-low s n =
-    each Judged _ (verdict.Refused 10) _ (λ _. syntax)
-    (λ _. each Judged _ (verdict.Refused 10) _ (λ _. syntax)
-    (λ _. each Judged _ (verdict.Refused 10) _ (λ _. syntax)
-    (λ _. each Judged _ (verdict.Refused 11) _ (λ _. range)
-    (λ _. each Judged _ (verdict.Refused 11) _ (λ _. range) (λ _. tt)))))
+stream-judged s n =
+    each JudgedList _ (verdict.Refused 10) _ (λ _. inl syntax)
+    (λ _. each JudgedList _ (verdict.Refused 10) _ (λ _. inl syntax)
+    (λ _. each JudgedList _ (verdict.Refused 10) _ (λ _. inl syntax)
+    (λ _. each JudgedList _ (verdict.Refused 11) _ (λ _. inl range)
+    (λ _. each JudgedList _ (verdict.Refused 11) _ (λ _. inl range)
+    (λ _. each JudgedList _ (verdict.Refused 12) _ (λ _. inr refl) (λ _. tt))))))
 
 abbrev Passed : Limited → Type 0
 Passed (Fine n) = Unit {0}
@@ -251,8 +268,8 @@ ends-number s =
     (λ _. each P _ None _ (λ _. refused-low 10 syntax)
     (λ _. both-number _ _ (limited-low (numberOf (take k t))) (limited-low (numberOf (drop (k + 1) t))))))
 
-setting-number : (key : Key) (s : List ℕ) → Numbered (settingReply key s) (written (verdictNumber (verdictOf key s)))
-unfolding settingReply verdictOf transitionData streamData
+setting-number : (key : Key) (s : List ℕ) → Numbered (settingReply key s) (all (eqb (verdictNumber (verdictOf key s)) 10) (eqb (verdictNumber (verdictOf key s)) 11) (repeated (Of key) s))
+unfolding settingReply verdictOf transitionData streamData repeated commandText sameText pick
 setting-number DA s = held _ (address-low s)
 setting-number DU s = held _ (unit-low s)
 setting-number C1 s = held _ (factor-low (numberOf s))
@@ -260,13 +277,13 @@ setting-number CM s = held _ (digit-low Control (standard .controlHigh) s)
 setting-number CC s = held _ (digit-low Cathode (standard .cathodeHigh) s)
 setting-number FC s = held _ (digit-low Filament (standard .filamentHigh) s)
 setting-number ST s = ends-number s
-setting-number SM s = held _ (stream-low s (entriesNumber (drop 1 s)))
+setting-number SM s = held-list _ (stream-judged s (entriesNumber (drop 1 s)))
 
-value-number : (c : Command) (d : List ℕ) → Numbered (valueReply c d) (rows (badValue c d) (outside c d))
-unfolding valueReply badValue outside unmeasured pressureReply
+value-number : (c : Command) (d : List ℕ) → Numbered (valueReply c d) (all (badValue c d) (outside c d) (repeated c d))
+unfolding valueReply badValue outside unmeasured pressureReply repeated commandText sameText pick
 value-number MV d =
     to (either (sameText d underText) (sameText d overText) (eqb (parsedNumber (numberOf d)) 10) (tooLow (numberOf d)))
-    (row _ (read UnderRange) (row _ (read OverRange) (parsed-measured (numberOf d))))
+    (row (sameText d underText) (read UnderRange) (row (sameText d overText) (read OverRange) (parsed-measured (numberOf d))))
 value-number T2 d = parsed-degrees (numberOf d)
 value-number FN d = filament-number d
 value-number FS d = status-number d
@@ -276,8 +293,8 @@ done-number : (d : List ℕ) → Numbered (doneReply d) (rows (not (eqb (length 
 unfolding doneReply
 done-number d = to (never (not (eqb (length d) 0))) (row _ (refused 10 refl) (read Done))
 
-data-number : (r : RequestV2) (d : List ℕ) → Numbered (dataReply r d) (rows (badData r d) (outsideData r d))
-unfolding dataReply badData outsideData
+data-number : (r : RequestV2) (d : List ℕ) → Numbered (dataReply r d) (all (badData r d) (outsideData r d) (repeatedData r d))
+unfolding dataReply badData outsideData repeatedData pick
 data-number (request.Read c) d = value-number c d
 data-number (request.Restore c) d = done-number d
 data-number (request.Set x) d = done-number d
@@ -301,14 +318,14 @@ error-number d =
     (row _ (read (Error error.Range)) (row _ (read (Error error.Error1)) (refused 10 refl)))))))
 
 -- a refusal's data, or those of an answer
-by-access : (e x y z : Bool) → _≡_ {A = ℕ} (pick e (pick x 10 0) (rows y z)) (rows (cond e x y) (not e && z))
+by-access : (e x y z t : Bool) → _≡_ {A = ℕ} (pick e (pick x 10 0) (all y z t)) (all (cond e x y) (not e && z) (not e && t))
 unfolding pick
-by-access true x y z = refl
-by-access false x y z = refl
+by-access true x y z t = refl
+by-access false x y z t = refl
 
 -- the number of any bytes, read as the reply to any request that was sent to any address; it is 0 exactly if a reply was read
 pub reply-number : ReplyNumberV2
 unfolding readV2 bodyReply
 reply-number address r s =
     row _ (refused 2 refl) (row _ (refused 3 refl) (row _ (refused 4 refl) (row _ (refused 5 refl) (row _ (refused 6 refl) (row _ (refused 14 refl)
-    (to (by-access _ _ _ _) (row _ (error-number (dataFrom 8 s)) (data-number r (dataFrom 8 s)))))))))
+    (to (by-access _ _ _ _ _) (row _ (error-number (dataFrom 8 s)) (data-number r (dataFrom 8 s)))))))))

@@ -1,5 +1,5 @@
 -- Document 01, "The master's side": the number of the V2 reader's answer to any bytes, "in the order 2 (V1 frames too), 3, 4, 5, 6, 14 ..,
--- 10, 11 (by table and bench limits)", and 0 for a reply that was read.
+-- 10, 11 (by table and bench limits)", then 12 for SM's list (document 02), and 0 for a reply that was read.
 use mathlib.Core.Bool.{Bool, true, false, cond, not, _&&_, _||_}
 use mathlib.Core.List.{List, [], _∷_}
 use Prim.Native.Nat.{ℕ, _-_}
@@ -19,6 +19,8 @@ use Rattle.decimal.specs.declared.Hundredths.the-variants.{Whole, Other}
 use Rattle.readings.specs.Bench.{takes, outsideDegrees}
 use Rattle.settings.specs.Limits.{benchLimits}
 use Rattle.forms.specs.Judged.{verdictOf, verdictNumber}
+use Rattle.settings.specs.declared.Key.the-variants.{SM}
+use Rattle.requests.specs.Command.{commandText}
 use Rattle.requests.specs.declared.Command.{Command}
 use Rattle.requests.specs.declared.Command.the-variants.{MV, T2, FN, FS, Of}
 use Rattle.requests.specs.declared.RequestV2.{RequestV2}
@@ -54,7 +56,7 @@ badValue FS d = not (oneDigit d)
 badValue (Of key) d = eqb (verdictNumber (verdictOf key d)) 10
 
 -- 11: of the form, and outside. "0, 1, 2, 6 above zero"; "temperatures whole hundredths from -40.00 to 125.00"; FN `1`-`2`; FS `0`-`3`.
--- (ST's F and T in any order are read: this reader has no 12.)
+-- (ST's F and T in any order are read: this reader has 12 for SM's list only.)
 unfoldable pub tooLow : Parsed → Bool
 tooLow (Value n) = not (takes 0 n)
 tooLow Syntax = false
@@ -75,6 +77,10 @@ outside T2 d = noDegrees (numberOf d)
 outside FN d = ltb (benchLimits .filamentHigh) (at d 0 - 48) || ltb (at d 0 - 48) (benchLimits .filamentLow)
 outside FS d = ltb (benchLimits .statusHigh) (at d 0 - 48)
 outside (Of key) d = eqb (verdictNumber (verdictOf key d)) 11
+
+-- 12: "a repeat or a listed `0` is 12 LOGIC, after RANGE, at the writer and the V2 reply reader too"
+unfoldable pub repeated : Command → List ℕ → Bool
+repeated c d = sameText (commandText c) (bytes "SM") && eqb (verdictNumber (verdictOf SM d)) 12
 
 -- ---- any data; a is the access code
 
@@ -102,6 +108,11 @@ outsideData (request.Read c) d = outside c d
 outsideData (request.Restore c) d = false
 outsideData (request.Set x) d = false
 
+unfoldable pub repeatedData : RequestV2 → List ℕ → Bool
+repeatedData (request.Read c) d = repeated c d
+repeatedData (request.Restore c) d = false
+repeatedData (request.Set x) d = false
+
 -- the first that applies
 abbrev pub numberRows : ℕ → RequestV2 → List ℕ → ℕ
 numberRows address r s =
@@ -116,5 +127,6 @@ numberRows address r s =
     ∷ mismatched r (headV2 s) ⇒ 14
     ∷ cond refuses (not (errorText d)) (badData r d) ⇒ 10
     ∷ (not refuses && outsideData r d) ⇒ 11
+    ∷ (not refuses && repeatedData r d) ⇒ 12
     ∷ [])
     0

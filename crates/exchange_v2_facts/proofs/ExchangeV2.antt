@@ -37,6 +37,7 @@ use Rattle.replies_v2_values.specs.declared.ReplyV2.{ReplyV2}
 use Rattle.replies_v2_values.specs.declared.ReplyV2.the-variants.{Measured, UnderRange, OverRange, Degrees, FilamentNumber, StatusNumber, Holds, Done, Error}
 use Rattle.replies_v2_values.specs.declared.ReadV2.the-variants.{Read}
 use Rattle.replies_v2.specs.ReplyV2.{doneReply, dataReply, readV2, beside, dataList, readList}
+use Rattle.forms_facts.proofs.Lemmas.Lists.{at-most-six}
 use Rattle.gauge_rules.specs.State.{State}
 use Rattle.gauge_rules.specs.RulesV2.{changesCathode, readsFaulty, grantV2, sentText, textV2, answerCode}
 use Rattle.gauge_table.specs.Table.{otherAddress, numberOf}
@@ -143,7 +144,7 @@ module _ (g : State) (f : SoundState g) where
 
 module _ (g : State) (a : ℕ) (r : RequestV2) (f : SoundState g) (i : within 1 999 a ≡ true) (e : grantV2 g r ≡ 0) where
   reply-data : (readV2 a r (replyV2 g a r) ≡ dataReply r (textV2 g r)) × (dataFrom 8 (replyV2 g a r) ≡ textV2 g r)
-  reply-data = accepted-read a r (textV2 g r) i (text-printed g r) (omega (arith, text-v2-le g (f .settings .list .few) r))
+  reply-data = accepted-read a r (textV2 g r) i (text-printed g r) (omega (arith, text-v2-le g (omega (arith, at-most-six (g .settings .list) (f .settings .list))) r))
 
   -- the reply to a granted request is read as what the gauge holds
   pub reply-read-v2 : readV2 a r (frameV2 (answerHead (headFor a r) (answerCode r)) (textV2 g r)) ≡ Read (heldV2 g r)

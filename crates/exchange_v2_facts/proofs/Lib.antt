@@ -1,5 +1,5 @@
 -- The proofs of specs/Theorems, and what they rest on.
 pub mod ExchangeV2
 pub mod Examples
-pub mod Few
+pub mod Good
 pub mod Lemmas

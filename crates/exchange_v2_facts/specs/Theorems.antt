@@ -3,10 +3,9 @@ use mathlib.Core.Path.{_≡_}
 use mathlib.Core.Bool.{false}
 use mathlib.Core.List.{List, []}
 use Prim.Native.Nat.{ℕ, _≤_}
-use lib.ListN.{length}
 use Rattle.frame_writer.specs.Written.{frameV2}
 use Rattle.error_texts.specs.declared.ErrorText.the-variants.{Logic}
-use Rattle.sources.specs.Source.{mostEntries}
+use Rattle.forms_facts.specs.Codes.{GoodList}
 use Rattle.settings.specs.declared.Key.the-variants.{C1}
 use Rattle.settings.specs.declared.Setting.the-variants.{Factor, Cathode}
 use Rattle.requests.specs.declared.Command.the-variants.{MV, Of}
@@ -32,9 +31,9 @@ abbrev pub ExchangeListV2 : Type 0
 ExchangeListV2 = (g : State) (room a : ℕ) (s : List ℕ) (x r : RequestV2) → SoundState g → 64 ≤ room → a ≡ g .settings .address → AskedBy a x s → Alike x r
     → readList a r (answerOf g room s .reply) ≡ expectedListV2 g r
 
--- "up to seven sources": no bytes make the reply reader hand over more
-abbrev pub ReadFew : Type 0
-ReadFew = (address : ℕ) (r : RequestV2) (s : List ℕ) → length (readList address r s) ≤ mostEntries
+-- no bytes make the reply reader hand over a list that SM could not have: an unknown source, a repeat or a `0`
+abbrev pub ReadGood : Type 0
+ReadGood = (address : ℕ) (r : RequestV2) (s : List ℕ) → GoodList (readList address r s)
 
 -- ---- worked cases: a gauge at its start, asked for a pressure, a setting and what its rules refuse
 

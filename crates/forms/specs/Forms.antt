@@ -1,4 +1,4 @@
--- The data of each setting: its form, else 10 SYNTAX; its numbers, else 11 RANGE; and F below T, else 12 LOGIC.
+-- The data of each setting: its form, else 10 SYNTAX; its numbers and sources, else 11 RANGE; F below T, and each source once, else 12 LOGIC.
 use mathlib.Core.Bool.{Bool, not, _&&_, _||_}
 use mathlib.Core.List.{List, [], _∷_}
 use Prim.Native.Nat.{ℕ, _+_, _-_, min}
@@ -115,7 +115,7 @@ transitionOf (Two low high) = betweenOf low high
 unfoldable pub transitionData : List ℕ → Verdict
 transitionData s = transitionOf (endsOf s)
 
--- SM: "`0` off, or `4` and up to seven sources". "`0` with a list is SYNTAX"
+-- SM: "`0` off, or `4` and" a list of sources. "`0` with a list is SYNTAX"
 unfoldable pub idleList : List ℕ → Bool
 idleList s = startsWith 48 s && leb 2 (length s)
 
@@ -123,7 +123,7 @@ idleList s = startsWith 48 s && leb 2 (length s)
 unfoldable pub knownMode : List ℕ → Bool
 knownMode s = startsWith 48 s || startsWith 52 s
 
--- the mode stands before the entries, which are judged with n
+-- the mode stands before the entries, which are judged with n; "a repeat or a listed `0` is 12 LOGIC, after RANGE"
 unfoldable pub streamOf : List ℕ → ℕ → Verdict
 streamOf s n =
     first
@@ -132,6 +132,7 @@ streamOf s n =
     ∷ idleList s ⇒ Verdict.Refused 10
     ∷ not (knownMode s) ⇒ Verdict.Refused 11
     ∷ eqb n 11 ⇒ Verdict.Refused 11
+    ∷ eqb n 12 ⇒ Verdict.Refused 12
     ∷ [])
     (Set (Stream (startsWith 52 s)))
 

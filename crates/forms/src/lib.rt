@@ -307,6 +307,9 @@ fn stream_verdict(s: &[u8], number: u8) -> Verdict
     if number == 11 {
         return Verdict::Refused(11);
     }
+    if number == 12 {
+        return Verdict::Refused(12);
+    }
     let on = buffer::starts_with(s, b'4');
     Verdict::Set(settings::Setting::Stream(on))
 }

@@ -24,28 +24,30 @@ record Streams (s : List ℕ) (n : ℕ) (on : Bool) : Type 0 where
   busy : idleList s ≡ false
   mode : knownMode s ≡ true
   known : eqb n 11 ≡ false
+  once : eqb n 12 ≡ false
   told : startsWith 52 s ≡ on
 
-streams : (s : List ℕ) (n : ℕ) (on a b c d e : Bool) → eqb (leading s) 0 ≡ a → eqb n 10 ≡ b → idleList s ≡ c → not (knownMode s) ≡ d → eqb n 11 ≡ e
-    → pick a (Refused 10) (pick b (Refused 10) (pick c (Refused 10) (pick d (Refused 11) (pick e (Refused 11) (Set (Stream (startsWith 52 s))))))) ≡ Set (Stream on)
+streams : (s : List ℕ) (n : ℕ) (on a b c d e f : Bool) → eqb (leading s) 0 ≡ a → eqb n 10 ≡ b → idleList s ≡ c → not (knownMode s) ≡ d → eqb n 11 ≡ e → eqb n 12 ≡ f
+    → pick a (Refused 10) (pick b (Refused 10) (pick c (Refused 10) (pick d (Refused 11) (pick e (Refused 11) (pick f (Refused 12) (Set (Stream (startsWith 52 s)))))))) ≡ Set (Stream on)
     → Streams s n on
 unfolding pick
-streams s n on false false false false false p q r t u h = record { some = p; formed = q; busy = r; mode = not-false _ t; known = u; told = cc }
-streams s n on true b c d e p q r t u h = absurd (let z : _≡_ {A = ℕ} 0 1 = cc in omega arith)
-streams s n on false true c d e p q r t u h = absurd (let z : _≡_ {A = ℕ} 0 1 = cc in omega arith)
-streams s n on false false true d e p q r t u h = absurd (let z : _≡_ {A = ℕ} 0 1 = cc in omega arith)
-streams s n on false false false true e p q r t u h = absurd (let z : _≡_ {A = ℕ} 0 1 = cc in omega arith)
-streams s n on false false false false true p q r t u h = absurd (let z : _≡_ {A = ℕ} 0 1 = cc in omega arith)
+streams s n on false false false false false false p q r t u v h = record { some = p; formed = q; busy = r; mode = not-false _ t; known = u; once = v; told = cc }
+streams s n on true b c d e f p q r t u v h = absurd (let z : _≡_ {A = ℕ} 0 1 = cc in omega arith)
+streams s n on false true c d e f p q r t u v h = absurd (let z : _≡_ {A = ℕ} 0 1 = cc in omega arith)
+streams s n on false false true d e f p q r t u v h = absurd (let z : _≡_ {A = ℕ} 0 1 = cc in omega arith)
+streams s n on false false false true e f p q r t u v h = absurd (let z : _≡_ {A = ℕ} 0 1 = cc in omega arith)
+streams s n on false false false false true f p q r t u v h = absurd (let z : _≡_ {A = ℕ} 0 1 = cc in omega arith)
+streams s n on false false false false false true p q r t u v h = absurd (let z : _≡_ {A = ℕ} 0 1 = cc in omega arith)
 
 -- a text of one character
-alone : (x : ℕ) (s : List ℕ) (b : Bool) → (b && leb 2 (suc (length s))) ≡ false → b ≡ true → s ≡ []
+pub alone : (x : ℕ) (s : List ℕ) (b : Bool) → (b && leb 2 (suc (length s))) ≡ false → b ≡ true → s ≡ []
 alone x [] b e h = refl
 alone x (y ∷ s) b e h = absurd (let w = leb-false 2 (suc (suc (length s))) (rw h at e) in omega arith)
 
 sent : (s : List ℕ) (on : Bool) → Streams s (entriesNumber (drop 1 s)) on → streamText on (entriesList (drop 1 s)) ≡ s
 unfolding leading startsWith idleList knownMode streamText
 sent [] on w = absurd (let z : _≡_ {A = ℕ} 0 1 = cc (w .some) in omega arith)
-sent (x ∷ s) on w = go on (w .told) (w .busy) (w .mode) (fits s (w .formed) (w .known))
+sent (x ∷ s) on w = go on (w .told) (w .busy) (w .mode) (fits s (w .formed) (w .known) (w .once))
   where
     go : (on : Bool) → startsWith 52 (x ∷ s) ≡ on → idleList (x ∷ s) ≡ false → knownMode (x ∷ s) ≡ true → Fits s → streamText on (entriesList s) ≡ x ∷ s
     go true e i m f = cc (eqb-true x 52 e, entries-again s f)
@@ -56,4 +58,4 @@ sent (x ∷ s) on w = go on (w .told) (w .busy) (w .mode) (fits s (w .formed) (w
 -- "a read sends the text as accepted"
 pub sent-as-accepted : SentAsAccepted
 unfolding streamData streamOf
-sent-as-accepted s on e = sent s on (streams s (entriesNumber (drop 1 s)) on _ _ _ _ _ refl refl refl refl refl e)
+sent-as-accepted s on e = sent s on (streams s (entriesNumber (drop 1 s)) on _ _ _ _ _ _ refl refl refl refl refl refl e)

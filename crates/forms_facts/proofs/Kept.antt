@@ -12,10 +12,10 @@ use Rattle.settings.specs.declared.Key.the-variants.{DA, DU, C1, CM, CC, FC, ST
 use Rattle.settings.specs.declared.Setting.{Setting}
 use Rattle.settings.specs.declared.Setting.the-variants.{Address, PressureIn, Factor, Control, Cathode, Filament, Switch, Stream}
 use Rattle.forms.specs.Judged.{listIn}
-use Rattle.forms_facts.specs.Codes.{Short}
+use Rattle.forms_facts.specs.Codes.{GoodList}
 use Rattle.forms_facts.specs.Sound.{Sound, SoundSettings}
 use Rattle.forms_facts.proofs.Within.{accepted-sound, accepted-list}
-use Rattle.forms_facts.proofs.Lemmas.Lists.{none-short}
+use Rattle.forms_facts.proofs.Lemmas.Lists.{none-good}
 use Rattle.forms_facts.specs.Theorems.{FactorySound, WriteSound, RestoreSound}
 
 -- a gauge starts within the limits
@@ -33,11 +33,11 @@ factory-sound =
         record { canonical = inr (record { low = omega arith; high = omega arith; place = omega arith }); low = refl; high = refl },
         refl,
       );
-      list = none-short;
+      list = none-good;
     }
 
 -- one setting set to what is sound
-pub put-sound : (s : Held) (x : Setting) (list : List ℕ) → SoundSettings s → Sound x → Short list → SoundSettings (putOf s x list)
+pub put-sound : (s : Held) (x : Setting) (list : List ℕ) → SoundSettings s → Sound x → GoodList list → SoundSettings (putOf s x list)
 unfolding putOf
 put-sound s (Address v) list f h k = record { address = h; factor = f .factor; control = f .control; cathode = f .cathode; filament = f .filament; transition = f .transition; list = f .list }
 put-sound s (PressureIn v) list f h k = record { address = f .address; factor = f .factor; control = f .control; cathode = f .cathode; filament = f .filament; transition = f .transition; list = f .list }

@@ -1,5 +1,6 @@
 -- The proofs of specs/Theorems, and what they rest on.
 pub mod Digit
+pub mod Logic
 pub mod Exactly
 pub mod Within
 pub mod Kept

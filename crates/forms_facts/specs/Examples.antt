@@ -1,4 +1,4 @@
--- Document 01, the column "Data": worked cases, their answers taken from the paper.
+-- Document 01, the column "Data", and document 02, "No repeated sources": worked cases, their answers taken from the papers.
 use mathlib.Core.Bool.{Bool}
 use mathlib.Core.List.{List, [], _∷_}
 use Prim.Native.Nat.{ℕ}
@@ -90,9 +90,30 @@ cases =
     ∷ expect ST "" 10
     ∷ expect SM "0" 0
     ∷ expect SM "4" 0
-    ∷ expect SM "4D7D7D7D7D7D7D7" 0
     ∷ expect SM "4D7DT2" 0
-    ∷ expect SM "4D7D7D7D7D7D7D7D7" 11
+    ∷ expect SM "4D2DT2" 0
+    ∷ expect SM "4D6DT6" 0
+    ∷ expect SM "4D1D2D6D7DT2DT6" 0
+    -- a repeat or a listed `0`
+    ∷ expect SM "4D7D7" 12
+    ∷ expect SM "4DT2DT2" 12
+    ∷ expect SM "4D0" 12
+    ∷ expect SM "4D0D0D0" 12
+    ∷ expect SM "4D1D2D6D7DT2DT6D0" 12
+    ∷ expect SM "4D1D2D6D7DT2DT6D1" 12
+    ∷ expect SM "4D7D7D7D7D7D7D7" 12
+    ∷ expect SM "4D7D7D7D7D7D7D7D7" 12
+    ∷ expect SM "4D7D7D7D7D7D7D7D7D7D7D7D7D7D7D7D7D7D7D7D7D7D7D7D7D7D7D7D7D7D7D7D7D7D7D7D7D7D7D7D7D7D7D7D7D7D7D7D7D7" 12
+    -- "unless a source in it is unknown", and after the form and the mode
+    ∷ expect SM "4D7D7D7D7D7D7D7D9" 11
+    ∷ expect SM "4D7D7D7D7D7D7D7D7D7D7D7D7D7D7D7D7D7D7D7D7D7D7D7D7D7D7D7D7D7D7D7D7D7D7D7D7D7D7D7D7D7D7D7D7D7D7D7D7D9" 11
+    ∷ expect SM "4D7D7D3" 11
+    ∷ expect SM "4D0D5" 11
+    ∷ expect SM "4D7D07" 11
+    ∷ expect SM "3D7D7" 11
+    ∷ expect SM "0D7D7" 10
+    ∷ expect SM "4D7D7X" 10
+    ∷ expect SM "4D7D7D7D7D7D7D7D7D7D7D7D7D7D7D7D7D7D7D7D7D7D7D7D7D7D7D7D7D7D7D7D7D7D7D7D7D7D7D7D7D7D7D7D7D7D7D7D7DT" 10
     ∷ expect SM "4D07" 11
     ∷ expect SM "4D3" 11
     ∷ expect SM "4DT1" 11
@@ -136,7 +157,7 @@ sends =
     ∷ then ST "F5T15" "F5e0T1.5e1"
     ∷ then SM "0" "0"
     ∷ then SM "4" "4"
-    ∷ then SM "4D7D7D7D7D7D7D7" "4D7D7D7D7D7D7D7"
+    ∷ then SM "4DT6DT2D7D6D2D1" "4DT6DT2D7D6D2D1"
     ∷ then SM "4D7DT2" "4D7DT2"
     ∷ []
 

@@ -13,7 +13,7 @@ use Rattle.settings.specs.Sent.{unitText, streamText}
 use Rattle.settings.specs.declared.Transition.the-variants.{Direct, Between}
 use Rattle.settings.specs.declared.Setting.{Setting}
 use Rattle.settings.specs.declared.Setting.the-variants.{Address, PressureIn, Factor, Control, Cathode, Filament, Switch, Stream}
-use Rattle.forms_facts.specs.Codes.{Short}
+use Rattle.forms_facts.specs.Codes.{GoodList}
 
 -- the text has the form of the column "Data", with this value: three digits; a unit's text; a number of h hundredths (units are 10^-14);
 -- one digit; `D` number, or `F` number `T` number; the mode, with a list if it is 4
@@ -26,7 +26,7 @@ Form s (Cathode d) = s ≡ (d + 48) ∷ []
 Form s (Filament d) = s ≡ (d + 48) ∷ []
 Form s (Switch (Direct n)) = (t : List ℕ) × (s ≡ 68 ∷ t) × (numberOf t ≡ Value n)
 Form s (Switch (Between a b)) = (t : List ℕ) × (u : List ℕ) × (s ≡ 70 ∷ (t ++ 84 ∷ u)) × (numberOf t ≡ Value a) × (numberOf u ≡ Value b)
-Form s (Stream on) = (list : List ℕ) × Short list × (s ≡ streamText on list)
+Form s (Stream on) = (list : List ℕ) × GoodList list × (s ≡ streamText on list)
 
 -- the text has the form with this value and this list of sources beside it: SM's `0` has none, its `4` is followed by the list, each entry
 -- `D` and a source's text, in order; no other setting has one

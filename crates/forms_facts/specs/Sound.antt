@@ -12,7 +12,7 @@ use Rattle.settings.specs.declared.Key.the-variants.{DA, DU, C1, CM, CC, FC, ST
 use Rattle.settings.specs.declared.Transition.the-variants.{Direct, Between}
 use Rattle.settings.specs.declared.Setting.{Setting}
 use Rattle.settings.specs.declared.Setting.the-variants.{Address, PressureIn, Factor, Control, Cathode, Filament, Switch, Stream}
-use Rattle.forms_facts.specs.Codes.{Short}
+use Rattle.forms_facts.specs.Codes.{GoodList}
 
 -- a number of ST, "each 1 to 20", and one of the decimal form
 pub record InLimits (n : Number) : Type 0 where
@@ -40,7 +40,7 @@ pub record SoundSettings (s : Held) : Type 0 where
   pub cathode : Sound (Cathode (s .cathode))
   pub filament : Sound (Filament (s .filament))
   pub transition : Sound (Switch (s .transition))
-  pub list : Short (s .list)
+  pub list : GoodList (s .list)
 
 -- the value that settings hold for a command
 abbrev pub settingIn : Key → Held → Setting

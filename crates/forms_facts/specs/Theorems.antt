@@ -4,22 +4,25 @@ use mathlib.Core.List.{List, [], _∷_}
 use mathlib.Core.Logic.{_↔_}
 use mathlib.Core.Bool.{Bool, true}
 use Prim.Native.Nat.{ℕ, _+_, _<_, _≤_}
-use lib.ListN.{drop}
+use lib.ListN.{length, drop}
 use Rattle.settings.specs.Settings.{keyOf, factory, Held, putOf, restoreOf}
 use Rattle.settings.specs.declared.Key.{Key}
 use Rattle.settings.specs.declared.Setting.{Setting}
 use Rattle.forms.specs.Judged.{verdictOf, listIn}
 use Rattle.forms.specs.declared.Verdict.the-variants.{Set}
+use Rattle.forms.specs.declared.Verdict.the-variants as verdict
 use Rattle.forms.specs.Forms.{digitData, streamData}
 use Rattle.forms.specs.declared.Digit.the-variants.{Is, Refused}
+use Rattle.sources.specs.Source.{knownSources, among, listText}
 use Rattle.sources.specs.Entries.{entriesList}
+use Rattle.sources.specs.Theorems.{Repeat}
 use Rattle.settings.specs.Sent.{streamText, readText}
 use Rattle.settings.specs.declared.Setting.the-variants.{Stream}
 use Rattle.settings.specs.declared.Key.the-variants.{SM}
 use Rattle.buffer.specs.Byte.{every}
 use Rattle.forms_facts.specs.Sound.{Sound, SoundSettings, settingIn}
 use Rattle.forms_facts.specs.Form.{Form, FormWith}
-use Rattle.forms_facts.specs.Codes.{Short}
+use Rattle.forms_facts.specs.Codes.{GoodList}
 use Rattle.forms_facts.specs.Examples.{right, cases, well, sends}
 
 -- the column "Data": data are accepted as a setting exactly where it is the command's, the text has its form, and it is within the limits
@@ -27,10 +30,10 @@ abbrev pub AcceptedExactly : Type 0
 AcceptedExactly = (key : Key) (s : List ℕ) (x : Setting) → (verdictOf key s ≡ Set x) ↔ ((keyOf x ≡ key) × Form s x × Sound x)
 
 -- data are accepted as a setting with a list of sources exactly where it is the command's, the text has the form of the two, and both are
--- within the limits: the list has at most seven entries, each a known source
+-- within the limits: each source of the list is known and stands once, and none is `0`
 abbrev pub AcceptedWithList : Type 0
 AcceptedWithList = (key : Key) (s : List ℕ) (x : Setting) (list : List ℕ)
-    → ((verdictOf key s ≡ Set x) × (listIn key s ≡ list)) ↔ ((keyOf x ≡ key) × FormWith s x list × Sound x × Short list)
+    → ((verdictOf key s ≡ Set x) × (listIn key s ≡ list)) ↔ ((keyOf x ≡ key) × FormWith s x list × Sound x × GoodList list)
 
 -- "One-digit settings": exactly the digits up to the largest are accepted
 abbrev pub DigitExactly : Type 0
@@ -48,9 +51,22 @@ DigitSyntax = (most : ℕ) (s : List ℕ) → (digitData most s ≡ Refused 10) 
 abbrev pub AcceptedSound : Type 0
 AcceptedSound = (key : Key) (s : List ℕ) (x : Setting) → verdictOf key s ≡ Set x → Sound x
 
--- "up to seven sources", and "exactly `0 1 2 6 7 T2 T6`"
+-- an accepted list is good
 abbrev pub AcceptedList : Type 0
-AcceptedList = (key : Key) (s : List ℕ) → Short (listIn key s)
+AcceptedList = (key : Key) (s : List ℕ) → GoodList (listIn key s)
+
+-- "at most six entries can pass"
+abbrev pub AtMostSix : Type 0
+AtMostSix = (list : List ℕ) → GoodList list → length list ≤ 6
+
+-- "a repeat or a listed `0` is 12 LOGIC, after RANGE": SM is refused with 12 exactly where the mode is `4`, each source is known, and with the
+-- `0` before them one stands twice
+abbrev pub LogicExactly : Type 0
+LogicExactly = (s : List ℕ) → (verdictOf SM s ≡ verdict.Refused 12) ↔ ((list : List ℕ) × (s ≡ 52 ∷ listText list) × (every (among knownSources) list ≡ true) × Repeat (0 ∷ list))
+
+-- "any longer list of known sources holds a repeat or a `0`": it is refused with 12, however long it is
+abbrev pub LongerLogic : Type 0
+LongerLogic = (list : List ℕ) → every (among knownSources) list ≡ true → 6 < length list → verdictOf SM (52 ∷ listText list) ≡ verdict.Refused 12
 
 -- settings stay within the limits: a gauge starts so
 abbrev pub FactorySound : Type 0

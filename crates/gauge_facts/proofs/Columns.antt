@@ -23,7 +23,7 @@ use Rattle.requests.specs.declared.AskV2.the-variants.{Asks, Refused}
 use Rattle.request_texts.specs.RequestText.{accessOf, commandIn}
 use Rattle.gauge_rules.specs.State.{State}
 use Rattle.gauge_rules.specs.RulesV2.{changesCathode, readsFaulty}
-use Rattle.gauge_table.specs.Asked.{wrongCode, unknownCommand, lacks, badFormV2, outsideV2, endsWrong, breaksRule, asksFaulty}
+use Rattle.gauge_table.specs.Asked.{wrongCode, unknownCommand, lacks, badFormV2, outsideV2, againstLogic, breaksRule, asksFaulty}
 use Rattle.gauge_table.specs.Table.{numberOf}
 use Rattle.gauge_table.specs.Decided.{decidedV2}
 use Rattle.gauge_table.proofs.DecidedV2.{decided-v2}
@@ -102,7 +102,7 @@ module _ (g : State) (h : HeadV2) (d : List ℕ) where
   -- bytes that pass the rows up to ST's ends ask a typed request
   typed : wrongCode (h .access) ≡ false → unknownCommand (commandOf (h .first) (h .second)) ≡ false → lacks (h .access) (commandOf (h .first) (h .second)) ≡ false
       → badFormV2 (h .access) (commandOf (h .first) (h .second)) d ≡ false → outsideV2 (h .access) (commandOf (h .first) (h .second)) d ≡ false
-      → endsWrong (h .access) (commandOf (h .first) (h .second)) d ≡ false → (r : RequestV2) × (askV2 h d ≡ Asks r)
+      → againstLogic (h .access) (commandOf (h .first) (h .second)) d ≡ false → (r : RequestV2) × (askV2 h d ≡ Asks r)
   unfolding pick breaksRule asksFaulty decidedV2
   typed c u l f o e = go (askV2 h d) (refuses-v2 h d) (rw (c, u, l, f, o, e) at (decided-v2 g h d))
     where

@@ -19,7 +19,8 @@ use Rattle.frame_writer.specs.Written.{frameV1, frameV2}
 use Rattle.error_texts.specs.Texts.{errorOf}
 use Rattle.frame_writer.specs.Error.{errorDataV1}
 use Rattle.error_texts.specs.declared.ErrorText.the-variants.{Logic, Range}
-use Rattle.sources.specs.Source.{mostEntries}
+use Rattle.forms_facts.proofs.Lemmas.Lists.{at-most-six}
+use Rattle.sources.specs.Source.{capacity}
 use Rattle.printed_facts.proofs.Fits.{error-le, read-le}
 use Rattle.readings.specs.Reading.{valueText}
 use Rattle.readings.specs.Measure.{sixOf, roundedText, measureText}
@@ -83,9 +84,9 @@ text-v1-le g (SetFactor n) = omega arith
 text-v1-le g ReadUnit = omega arith
 text-v1-le g (SetUnit u) = omega arith
 
--- ---- V2's data; few says that a list has at most seven sources, as every accepted list has
+-- ---- V2's data; few says that a list has at most seven sources, as many as its array
 
-module _ (g : State) (few : length (g .settings .list) ≤ mostEntries) where
+module _ (g : State) (few : length (g .settings .list) ≤ capacity) where
   sent-le : (c : Command) → length (sentText g c) ≤ 24
   unfolding sentText valueText pick
   sent-le MV = omega (arith, value-le 0 (g .readings))
@@ -123,7 +124,7 @@ v1-le s l = each (λ (x : Bool). x ≡ false → length s ≤ 12) _ _ _ (λ _ e.
 abbrev Fits : List ℕ → Type 0
 Fits reply = length reply ≤ 64
 
-module _ (g : State) (few : length (g .settings .list) ≤ mostEntries) where
+module _ (g : State) (few : length (g .settings .list) ≤ capacity) where
   accepted-v2-le : (h : HeadV2) (a : AskV2) → Fits (acceptedV2 g h a)
   unfolding acceptedV2
   accepted-v2-le h (AskV2.Asks r) = rw length-v2 (omega (arith, text-v2-le g few r))
@@ -149,7 +150,7 @@ reply-fits g few room s =
 
 -- in every state that calls reach
 pub sound-fits : (g : State) → SoundState g → (room : ℕ) (s : List ℕ) → length (replyOf g s (numberOf g room s)) ≤ 64
-sound-fits g f = reply-fits g (f .settings .list .few)
+sound-fits g f = reply-fits g (omega (arith, at-most-six (g .settings .list) (f .settings .list)))
 
 -- and it lies within the memory lent: below 64 bytes there is none
 pub within-lent : WithinLent

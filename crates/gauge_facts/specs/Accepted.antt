@@ -9,7 +9,7 @@ use Rattle.frames.specs.Frame.{dataFrom, misshapen, wrongSum, wrongAddress, wro
 use Rattle.requests.specs.Command.{commandOf}
 use Rattle.requests.specs.declared.Named.{Named}
 use Rattle.gauge_rules.specs.State.{State}
-use Rattle.gauge_table.specs.Asked.{askedV2, wrongCode, unknownCommand, lacks, badFormV2, outsideV2, endsWrong, breaksRule, asksFaulty, unknownLetter, badFormV1, lockedWrite, outsideV1, measuresFaulty}
+use Rattle.gauge_table.specs.Asked.{askedV2, wrongCode, unknownCommand, lacks, badFormV2, outsideV2, againstLogic, breaksRule, asksFaulty, unknownLetter, badFormV1, lockedWrite, outsideV1, measuresFaulty}
 use Rattle.gauge_table.specs.Table.{answerRoom, otherAddress, test}
 
 -- the command of a V2 frame
@@ -40,12 +40,12 @@ commandFits s = not (test s (unknownLetter (at s 3)) (unknownCommand (named s)))
 abbrev pub accessFits : List ℕ → Bool
 accessFits s = not (test s false (wrongCode (at s 3))) && not (test s false (lacks (at s 3) (named s)))
 
--- 10, 11 and 12: data of the command's form, no number outside, ST's F strictly below T
+-- 10, 11 and 12: data of the command's form, no number or source outside, ST's F strictly below T, each source of SM's list once and no `0`
 abbrev pub dataFits : List ℕ → Bool
 dataFits s =
     not (test s (badFormV1 (at s 3) (dataFrom 4 s)) (badFormV2 (at s 3) (named s) (dataFrom 8 s)))
     && (not (test s (outsideV1 (at s 3) (dataFrom 4 s)) (outsideV2 (at s 3) (named s) (dataFrom 8 s)))
-    && not (test s false (endsWrong (at s 3) (named s) (dataFrom 8 s))))
+    && not (test s false (againstLogic (at s 3) (named s) (dataFrom 8 s))))
 
 -- 12 and 13: for V1 not a write while locked; for V2 not CC written or restored while CM is 1; no faulty sensor asked for
 abbrev pub stateFits : State → List ℕ → Bool

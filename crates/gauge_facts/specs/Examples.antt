@@ -157,23 +157,45 @@ settings =
     -- ST: sent as written; 1 and 20 pass
     ∷ then (ask "0012ST11F005.0T15E0t\r" ∷ []) "0010ST00H\r" 0 "0011ST10F5e0T1.5e1X\r"
     ∷ expect "0012ST05F1T20|\r" 0 "0013ST00K\r"
-    -- SM: no list; seven entries pass, eight are RANGE, and SYNTAX where the last is malformed; `0` with a list is SYNTAX
+    -- SM: no list; sources that stand once, six at most
     ∷ expect "0012SM014x\r" 0 "0013SM00D\r"
-    ∷ expect "0012SM154D7D7D7D7D7D7D7Z\r" 0 "0013SM00D\r"
-    ∷ expect "0012SM174D7D7D7D7D7D7D7D7W\r" 11 "0017SM06_RANGEZ\r"
+    ∷ expect "0012SM064D2DT2}\r" 0 "0013SM00D\r"
+    ∷ expect "0012SM064D6DT6E\r" 0 "0013SM00D\r"
+    ∷ expect "0012SM154D1D2D6D7DT2DT6u\r" 0 "0013SM00D\r"
+    -- a repeat or a listed `0` is LOGIC, however many entries there are
+    ∷ expect "0012SM054D7D7r\r" 12 "0017SM06_LOGIC[\r"
+    ∷ expect "0012SM074DT2DT2R\r" 12 "0017SM06_LOGIC[\r"
+    ∷ expect "0012SM034D0n\r" 12 "0017SM06_LOGIC[\r"
+    ∷ expect "0012SM074D0D0D0Z\r" 12 "0017SM06_LOGIC[\r"
+    ∷ expect "0012SM174D1D2D6D7DT2DT6D0k\r" 12 "0017SM06_LOGIC[\r"
+    ∷ expect "0012SM174D1D2D6D7DT2DT6D1l\r" 12 "0017SM06_LOGIC[\r"
+    ∷ expect "0012SM154D7D7D7D7D7D7D7Z\r" 12 "0017SM06_LOGIC[\r"
+    ∷ expect "0012SM174D7D7D7D7D7D7D7D7W\r" 12 "0017SM06_LOGIC[\r"
+    ∷ expect "0012SM994D7D7D7D7D7D7D7D7D7D7D7D7D7D7D7D7D7D7D7D7D7D7D7D7D7D7D7D7D7D7D7D7D7D7D7D7D7D7D7D7D7D7D7D7D7D7D7D7D7T\r" 12 "0017SM06_LOGIC[\r"
+    -- after RANGE and SYNTAX
+    ∷ expect "0012SM174D7D7D7D7D7D7D7D9Y\r" 11 "0017SM06_RANGEZ\r"
+    ∷ expect "0012SM994D7D7D7D7D7D7D7D7D7D7D7D7D7D7D7D7D7D7D7D7D7D7D7D7D7D7D7D7D7D7D7D7D7D7D7D7D7D7D7D7D7D7D7D7D7D7D7D7D9V\r" 11 "0017SM06_RANGEZ\r"
+    ∷ expect "0012SM074D7D7D3k\r" 11 "0017SM06_RANGEZ\r"
+    ∷ expect "0012SM054D0D5i\r" 11 "0017SM06_RANGEZ\r"
+    ∷ expect "0012SM064D7D07c\r" 11 "0017SM06_RANGEZ\r"
+    ∷ expect "0012SM053D7D7q\r" 11 "0017SM06_RANGEZ\r"
+    ∷ expect "0012SM064D7D7XK\r" 10 "0017SM06SYNTAXu\r"
+    ∷ expect "0012SM050D7D7n\r" 10 "0017SM06SYNTAXu\r"
+    ∷ expect "0012SM994D7D7D7D7D7D7D7D7D7D7D7D7D7D7D7D7D7D7D7D7D7D7D7D7D7D7D7D7D7D7D7D7D7D7D7D7D7D7D7D7D7D7D7D7D7D7D7D7DTq\r" 10 "0017SM06SYNTAXu\r"
     ∷ expect "0012SM184D7D7D7D7D7D7D7D7D\\\r" 10 "0017SM06SYNTAXu\r"
+    -- `0` with a list is SYNTAX
     ∷ expect "0012SM030D7q\r" 10 "0017SM06SYNTAXu\r"
     ∷ expect "0012SM040D99m\r" 10 "0017SM06SYNTAXu\r"
-    -- SM: other modes; sources that are none here; three digits; a listed 0 and repeats pass
+    -- SM: other modes; sources that are none here; three digits
     ∷ expect "0012SM032D7s\r" 11 "0017SM06_RANGEZ\r"
     ∷ expect "0012SM022D{\r" 10 "0017SM06SYNTAXu\r"
     ∷ expect "0012SM044D07f\r" 11 "0017SM06_RANGEZ\r"
     ∷ expect "0012SM044DT1D\r" 11 "0017SM06_RANGEZ\r"
     ∷ expect "0012SM054D123V\r" 10 "0017SM06SYNTAXu\r"
-    ∷ expect "0012SM074D0D0D0Z\r" 0 "0013SM00D\r"
-    -- SM: sent as accepted; a request does not end it
+    -- SM: sent as accepted; a request does not end it, and a refused one changes nothing
     ∷ then (ask "0012SM064DT6D1@\r" ∷ []) "0010SM00A\r" 0 "0011SM064DT6D1\u{7f}\r"
     ∷ then (ask "0012SM014x\r" ∷ ask "0010MV00D\r" ∷ []) "0010SM00A\r" 0 "0011SM014w\r"
+    ∷ then (ask "0012SM064D7DT2B\r" ∷ ask "0012SM054D7D7r\r" ∷ ask "0012SM034D0n\r" ∷ []) "0010SM00A\r" 0 "0011SM064D7DT2A\r"
     ∷ []
 
 -- V1, and readings
@@ -229,16 +251,15 @@ overV1 =
 abbrev pub lines : List Case
 lines =
     -- ROOM before "no line"; no line with SM 0
-    line [] 95 1 ""
-    ∷ line [] 96 0 ""
+    line [] 70 1 ""
+    ∷ line [] 71 0 ""
     -- source 0 alone; the list in order; a faulty source is a value; source 7 at zero
-    ∷ line (ask "0012SM014x\r" ∷ SetBench (Reads 0 (decimals 9734 1)) ∷ []) 96 0 "9.734e2\\\r"
-    ∷ line (ask "0012SM064DT2D7B\r" ∷ SetBench (Reads 0 (decimals 9734 1)) ∷ SetBench (Reads 7 (decimals 1 1)) ∷ SetBench (Reads 8 (decimals 2325 2)) ∷ []) 96 0 "9.734e2;23.25;1e-1@\r"
-    ∷ line (ask "0012SM064D7DT2B\r" ∷ SetBench (Faulty 7) ∷ SetBench (OverRange 0) ∷ []) 96 0 "OR;ERROR1;20.00B\r"
-    ∷ line (ask "0012SM034D7u\r" ∷ SetBench (Reads 7 (decimals 0 0)) ∷ []) 96 0 "1e0;0q\r"
-    -- the longest line, of eight values and 96 bytes; 95 bytes lent are refused for a short line too
-    ∷ line (ask "0012SM154D7D7D7D7D7D7D7Z\r" ∷ SetBench (Reads 0 (decimals 123456 14)) ∷ SetBench (Reads 7 (below 123456 14)) ∷ []) 96 0 "1.23456e-9;-1.23456e-9;-1.23456e-9;-1.23456e-9;-1.23456e-9;-1.23456e-9;-1.23456e-9;-1.23456e-9H\r"
-    ∷ line (ask "0012SM014x\r" ∷ []) 95 1 ""
+    ∷ line (ask "0012SM014x\r" ∷ SetBench (Reads 0 (decimals 9734 1)) ∷ []) 71 0 "9.734e2\\\r"
+    ∷ line (ask "0012SM064DT2D7B\r" ∷ SetBench (Reads 0 (decimals 9734 1)) ∷ SetBench (Reads 7 (decimals 1 1)) ∷ SetBench (Reads 8 (decimals 2325 2)) ∷ []) 71 0 "9.734e2;23.25;1e-1@\r"
+    ∷ line (ask "0012SM064D7DT2B\r" ∷ SetBench (Faulty 7) ∷ SetBench (OverRange 0) ∷ []) 71 0 "OR;ERROR1;20.00B\r"
+    ∷ line (ask "0012SM034D7u\r" ∷ SetBench (Reads 7 (decimals 0 0)) ∷ []) 71 0 "1e0;0q\r"
+    -- 70 bytes lent are refused for a short line too
+    ∷ line (ask "0012SM014x\r" ∷ []) 70 1 ""
     ∷ []
 
 -- ---- whole sequences of calls to a fresh gauge
@@ -329,17 +350,24 @@ cathode =
     ∷ [])
     ("001" ∷ "mbar" ∷ "1.00" ∷ "1" ∷ "0" ∷ "0" ∷ "F5e0T1.5e1" ∷ "0" ∷ "0" ∷ [])
 
--- the witness of demand 3
+-- the witness of demand 3: seven values and 71 bytes, in either order of the list
 abbrev pub longest : Course
 longest =
     course
     (sets (Reads 0 (decimals 123456 14)) 0
+    ∷ sets (Reads 1 (decimals 123456 14)) 0
+    ∷ sets (Reads 2 (decimals 123456 14)) 0
+    ∷ sets (Reads 6 (decimals 123456 14)) 0
     ∷ sets (Reads 7 (below 123456 14)) 0
-    ∷ asks "0012SM154D7D7D7D7D7D7D7Z\r" 0 "0013SM00D\r"
-    ∷ streams 95 1 ""
-    ∷ streams 96 0 "1.23456e-9;-1.23456e-9;-1.23456e-9;-1.23456e-9;-1.23456e-9;-1.23456e-9;-1.23456e-9;-1.23456e-9H\r"
+    ∷ sets (Reads 8 (below 4000 2)) 0
+    ∷ sets (Reads 9 (below 4000 2)) 0
+    ∷ asks "0012SM154DT6DT2D7D6D2D1u\r" 0 "0013SM00D\r"
+    ∷ streams 71 0 "1.23456e-9;-40.00;-40.00;-1.23456e-9;1.23456e-9;1.23456e-9;1.23456e-9s\r"
+    ∷ asks "0012SM154D1D2D6D7DT2DT6u\r" 0 "0013SM00D\r"
+    ∷ streams 70 1 ""
+    ∷ streams 71 0 "1.23456e-9;1.23456e-9;1.23456e-9;1.23456e-9;-1.23456e-9;-40.00;-40.00s\r"
     ∷ [])
-    ("001" ∷ "mbar" ∷ "1.00" ∷ "1" ∷ "1" ∷ "0" ∷ "F5e0T1.5e1" ∷ "4D7D7D7D7D7D7D7" ∷ "0" ∷ [])
+    ("001" ∷ "mbar" ∷ "1.00" ∷ "1" ∷ "1" ∷ "0" ∷ "F5e0T1.5e1" ∷ "4D1D2D6D7DT2DT6" ∷ "0" ∷ [])
 
 -- a faulty sensor for MV, M and the line
 abbrev pub faulty : Course
@@ -349,11 +377,11 @@ faulty =
     ∷ asks "0010MV00D\r" 13 "0017MV06ERROR1L\r"
     ∷ asks "001M^\r" 13 "001M1O\r"
     ∷ asks "0012SM034D1o\r" 0 "0013SM00D\r"
-    ∷ streams 96 0 "ERROR1;1e0|\r"
+    ∷ streams 71 0 "ERROR1;1e0|\r"
     ∷ sets (OverRange 0) 0
     ∷ asks "0010MV00D\r" 0 "0011MV02ORh\r"
     ∷ asks "001M^\r" 0 "001M999999t\r"
-    ∷ streams 96 0 "OR;1e0b\r"
+    ∷ streams 71 0 "OR;1e0b\r"
     ∷ [])
     ("001" ∷ "mbar" ∷ "1.00" ∷ "1" ∷ "1" ∷ "0" ∷ "F5e0T1.5e1" ∷ "4D1" ∷ "0" ∷ [])
 

@@ -20,7 +20,7 @@ use Rattle.settings.specs.Units.{unitCode}
 use Rattle.requests.specs.AskV2.{askList}
 use Rattle.frames.specs.Frame.{dataFrom, headV2}
 use Rattle.frame_writer.specs.Written.{frameV1, frameV2}
-use Rattle.forms_facts.specs.Codes.{Short}
+use Rattle.forms_facts.specs.Codes.{GoodList}
 use Rattle.forms_facts.specs.Sound.{Sound}
 use Rattle.forms_facts.specs.Form.{FormWith}
 use Rattle.gauge_rules.specs.State.{State}
@@ -37,7 +37,7 @@ RoomFits room = answerRoom ≤ room
 abbrev pub DataFor : RequestV2 → List ℕ → List ℕ → Type 0
 DataFor (Read c) list d = (d ≡ []) × (list ≡ [])
 DataFor (Restore c) list d = (canRestore c ≡ true) × (d ≡ []) × (list ≡ [])
-DataFor (Set x) list d = FormWith d x list × Sound x × Short list
+DataFor (Set x) list d = FormWith d x list × Sound x × GoodList list
 
 -- what the gauge's state allows
 pub record Allowed (g : State) (r : RequestV2) : Type 0 where

@@ -12,8 +12,9 @@ use Rattle.frames.specs.Frame.{dataFrom, misshapen, wrongSum, wrongAddress, wro
 use Rattle.frame_writer.specs.Written.{frameV2}
 use Rattle.decimal.specs.Number.{belowOf}
 use Rattle.decimal.specs.declared.Number.{Number}
-use Rattle.sources.specs.Source.{mostEntries}
+use Rattle.sources.specs.Source.{capacity}
 use Rattle.settings.specs.Limits.{standard, longestLine}
+use Rattle.forms_facts.specs.Codes.{GoodList}
 use Rattle.settings.specs.Settings.{Held}
 use Rattle.settings.specs.declared.Transition.the-variants.{Between}
 use Rattle.readings.specs.Bench.{benchOf}
@@ -26,10 +27,10 @@ use Rattle.requests.specs.declared.RequestV2.{RequestV2}
 use Rattle.requests.specs.declared.AskV2.{AskV2}
 use Rattle.requests.specs.declared.RequestV1.{RequestV1}
 use Rattle.requests.specs.declared.AskV1.{AskV1}
-use Rattle.line.specs.Line.{valuesOf, lineAnswer}
+use Rattle.line.specs.Line.{shownList, valuesOf, lineAnswer}
 use Rattle.gauge_rules.specs.State.{State, fresh}
 use Rattle.gauge_rules.specs.RulesV2.{answerCode, textV2}
-use Rattle.gauge_table.specs.Asked.{isV1, askedV2, askedV1, wrongCode, unknownCommand, lacks, badFormV2, outsideV2, endsWrong}
+use Rattle.gauge_table.specs.Asked.{isV1, askedV2, askedV1, wrongCode, unknownCommand, lacks, badFormV2, outsideV2, againstLogic}
 use Rattle.gauge_table.specs.Table.{answerRoom, otherAddress, numberOf}
 use Rattle.gauge_table.specs.Reply.{replyOf}
 use Rattle.gauge_table.specs.After.{asksUnlock, nextOf, benched}
@@ -113,15 +114,15 @@ NumberOnBytes = (g : State) (room : ℕ) (s : List ℕ) → isV1 s ≡ false
     ∷ lacks a n ⇒ 9
     ∷ badFormV2 a n d ⇒ 10
     ∷ outsideV2 a n d ⇒ 11
-    ∷ endsWrong a n d ⇒ 12
+    ∷ againstLogic a n d ⇒ 12
     ∷ cathodeHeld g a t ⇒ 12
     ∷ sensorFaulty (g .readings) a t ⇒ 13
     ∷ [])
     0)
 
--- "lent answer memory below 64 bytes" is ROOM: no reply is longer than that, where a list has at most seven sources
+-- "lent answer memory below 64 bytes" is ROOM: no reply is longer than that, whatever list its array holds
 abbrev pub ReplyFits : Type 0
-ReplyFits = (g : State) → length (g .settings .list) ≤ mostEntries → (room : ℕ) (s : List ℕ) → length (replyOf g s (numberOf g room s)) ≤ 64
+ReplyFits = (g : State) → length (g .settings .list) ≤ capacity → (room : ℕ) (s : List ℕ) → length (replyOf g s (numberOf g room s)) ≤ 64
 
 -- and it lies within the memory lent: below 64 bytes there is none
 abbrev pub WithinLent : Type 0
@@ -156,18 +157,18 @@ BenchSound = (g : State) (b : Bench) → SoundState g → SoundState (benched g 
 abbrev pub LowerBelow : Type 0
 LowerBelow = (g : State) (low high : Number) → SoundState g → g .settings .transition ≡ Between low high → belowOf low high ≡ true
 
--- the stream line: readings within the bench's limits are shown whole. Source 0 is never negative, and no other value is wider than its
--- source's width
+-- the stream line: a good list is shown whole, and so are readings within the bench's limits. Source 0 is never negative, and no other value
+-- is wider than its source's width
 abbrev pub LineWhole : Type 0
-LineWhole = (list : List ℕ) (r : Readings) → SoundReadings r → valuesOf list r ≡ map (λ (code : ℕ). valueText code r) (0 ∷ list)
+LineWhole = (list : List ℕ) (r : Readings) → GoodList list → SoundReadings r → valuesOf (shownList (standard .sourceCodes) list) r ≡ map (λ (code : ℕ). valueText code r) (0 ∷ list)
 
--- "Longest: .. 96 bytes", in any state whose list has at most seven entries
+-- no line is longer than the longest, in any state
 abbrev pub LineFits : Type 0
-LineFits = (room : ℕ) (h : Held) (r : Readings) → length (h .list) ≤ mostEntries → length (lineAnswer room h r .reply) ≤ longestLine standard
+LineFits = (room : ℕ) (h : Held) (r : Readings) → length (lineAnswer room h r .reply) ≤ longestLine (standard .sourceCodes)
 
 -- and it lies within the memory lent
 abbrev pub LineWithinLent : Type 0
-LineWithinLent = (room : ℕ) (h : Held) (r : Readings) → length (h .list) ≤ mostEntries → length (lineAnswer room h r .reply) ≤ room
+LineWithinLent = (room : ℕ) (h : Held) (r : Readings) → length (lineAnswer room h r .reply) ≤ room
 
 -- ---- "V1 on the same settings"
 

@@ -25,7 +25,7 @@ use Rattle.requests_facts.proofs.Data.{refused-data, none-with-write}
 use Rattle.gauge_rules.specs.State.{State}
 use Rattle.gauge_rules.specs.RulesV2.{grantV2}
 use Rattle.gauge_table.specs.Decided.{decidedV2}
-use Rattle.gauge_table.specs.Asked.{wrongCode, unknownCommand, lacks, dataNumber, badFormV2, outsideV2, endsWrong, breaksRule, asksFaulty}
+use Rattle.gauge_table.specs.Asked.{wrongCode, unknownCommand, lacks, dataNumber, badFormV2, outsideV2, againstLogic, breaksRule, asksFaulty}
 
 -- the table's rows from 8 on, and from 10 on
 abbrev from10 : State → ℕ → Named → List ℕ → AskV2 → ℕ
@@ -33,7 +33,7 @@ from10 g a n d ask =
     first
     (badFormV2 a n d ⇒ 10
     ∷ outsideV2 a n d ⇒ 11
-    ∷ endsWrong a n d ⇒ 12
+    ∷ againstLogic a n d ⇒ 12
     ∷ breaksRule g ask ⇒ 12
     ∷ asksFaulty g ask ⇒ 13
     ∷ [])
@@ -55,7 +55,7 @@ module _ (g : State) (a : ℕ) (d : List ℕ) where
   -- a write's data, as they are judged
   module _ (key : Key) (w : eqb a writeCode ≡ true) where
     some : (y : ℕ) (ds : List ℕ) (v : Verdict) → verdictOf key (y ∷ ds) ≡ v → from10 g a (Known (Of key)) (y ∷ ds) (setOf v) ≡ decidedV2 g (setOf v)
-    unfolding badFormV2 outsideV2 endsWrong dataNumber breaksRule asksFaulty decidedV2 grantV2 setOf pick
+    unfolding badFormV2 outsideV2 againstLogic dataNumber breaksRule asksFaulty decidedV2 grantV2 setOf pick
     some y ds (verdict.Set x) e = rw (w, e, eqb·suc-zero (length ds))
     some y ds (verdict.Refused k) e = go (refused-data key (y ∷ ds) k e)
       where
@@ -96,7 +96,7 @@ module _ (g : State) (a : ℕ) (d : List ℕ) where
   writing c e w = rw (e, w) (written c e w)
 
   reading : (c : Command) → lacksAccess a c ≡ false → eqb a writeCode ≡ false → from8 g a (Known c) d (askKnown a c d) ≡ decidedV2 g (askKnown a c d)
-  unfolding unknownCommand lacks askKnown badFormV2 outsideV2 endsWrong pick
+  unfolding unknownCommand lacks askKnown badFormV2 outsideV2 againstLogic pick
   reading c e w = rw (e, w) (unwritten c (eqb (length d) 0) (eqb a restoreCode))
 
   known : (c : Command) → from8 g a (Known c) d (askKnown a c d) ≡ decidedV2 g (askKnown a c d)

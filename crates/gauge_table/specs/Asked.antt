@@ -66,9 +66,9 @@ badFormV2 a n d = cond (eqb a writeCode) (eqb (length d) 0 || eqb (dataNumber n 
 unfoldable pub outsideV2 : ℕ → Named → List ℕ → Bool
 outsideV2 a n d = eqb a writeCode && eqb (dataNumber n d) 11
 
--- 12 LOGIC: "ST's F must lie strictly below T, else LOGIC."
-unfoldable pub endsWrong : ℕ → Named → List ℕ → Bool
-endsWrong a n d = eqb a writeCode && eqb (dataNumber n d) 12
+-- 12 LOGIC in the data: "ST's F must lie strictly below T, else LOGIC."; in SM's list "a repeat or a listed `0` is 12 LOGIC"
+unfoldable pub againstLogic : ℕ → Named → List ℕ → Bool
+againstLogic a n d = eqb a writeCode && eqb (dataNumber n d) 12
 
 -- 12 LOGIC: "CC written or restored while CM is 1 is LOGIC."
 unfoldable pub breaksRule : State → AskV2 → Bool

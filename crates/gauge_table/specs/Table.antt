@@ -8,7 +8,7 @@ use Rattle.buffer.specs.Byte.{at}
 use Rattle.frames.specs.Frame.{dataFrom, addressOf, misshapen, wrongSum, wrongAddress, wrongLength}
 use Rattle.requests.specs.Command.{commandOf}
 use Rattle.gauge_rules.specs.State.{State}
-use Rattle.gauge_table.specs.Asked.{isV1, askedV2, wrongCode, unknownCommand, lacks, badFormV2, outsideV2, endsWrong, breaksRule, asksFaulty, unknownLetter, badFormV1, lockedWrite, outsideV1, measuresFaulty}
+use Rattle.gauge_table.specs.Asked.{isV1, askedV2, wrongCode, unknownCommand, lacks, badFormV2, outsideV2, againstLogic, breaksRule, asksFaulty, unknownLetter, badFormV1, lockedWrite, outsideV1, measuresFaulty}
 
 -- "lent answer memory below 64 bytes"
 abbrev pub answerRoom : ℕ
@@ -46,7 +46,7 @@ numberOf g room s =
     ∷ test s (badFormV1 l d1) (badFormV2 a n d2) ⇒ 10
     ∷ test s (lockedWrite g l d1) false ⇒ 12
     ∷ test s (outsideV1 l d1) (outsideV2 a n d2) ⇒ 11
-    ∷ test s false (endsWrong a n d2) ⇒ 12
+    ∷ test s false (againstLogic a n d2) ⇒ 12
     ∷ test s false (breaksRule g (askedV2 s)) ⇒ 12
     ∷ test s (measuresFaulty g l) (asksFaulty g (askedV2 s)) ⇒ 13
     ∷ [])

@@ -1,28 +1,31 @@
 -- Laws of values as rows, and of rows as a line.
-use mathlib.Core.Path.{_≡_, refl, _∙_}
-use mathlib.Core.Bool.{Bool, true, false, cond, not}
+use mathlib.Core.Path.{_≡_, refl, sym, ap, _∙_}
+use mathlib.Core.Bool.{Bool, true, false, cond, not, and-eq-true-iff}
 use mathlib.Core.List.{List, [], _∷_, _++_, map}
-use Prim.Native.Nat.{ℕ, zero, suc, _+_, _*_, _<_, _≤_}
+use Prim.Native.Nat.{ℕ, zero, suc, _+_, _-_, _<_, _≤_}
 use native.Mathlib.Nat.{zero-add}
 use native.Mathlib.Numerals.{add-one}
 use native.Mathlib.Omega.{arith}
-use borrow.Author.Tests.{lt-ltb, le-ltb}
+use borrow.Author.Tests.{lt-ltb, le-ltb, not-false}
 use lib.Dec.{eqb, leb, ltb}
 use lib.ListN.{length, take, drop, getD, set, replicate, length-append, length-take, length-map}
-use lib.Seq.{sets, sets-eq, drop-cons, take-append-seam}
+use lib.Seq.{sets, sets-eq, drop-cons, take-append-seam, getD-append-add, getD-drop}
 use Rattle.buffer.specs.First.{pick}
-use Rattle.buffer.specs.Byte.{at, within, untilOf}
+use Rattle.buffer.specs.Byte.{at, within, every, untilOf}
 use Rattle.buffer.specs.Answer.{silent, Stored}
 use Rattle.buffer.proofs.Rules.{each}
 use Rattle.buffer.proofs.Laws.{sets-sets, drop-step}
 use Rattle.frames.specs.Checksum.{endOf, closed}
+use Rattle.sources.specs.Source.{knownSources, among, lone, listable, total}
+use Rattle.sources.proofs.Weights.{weights, at-most, at-most-all, line-known}
 use Rattle.settings.specs.Limits.{standard, widthOf, longestLine}
 use Rattle.settings.proofs.Laws.{longest-is}
 use Rattle.settings.specs.Settings.{Held}
 use Rattle.readings.specs.Reading.{valueText}
 use Rattle.readings.specs.declared.Readings.{Readings}
 use Rattle.readings.proofs.Laws.{shown, value-le, value-some, value-clean}
-use Rattle.line.specs.Line.{lineValue, valuesOf, tailOf, joined, lineAnswer}
+use Rattle.line.specs.Line.{lineValue, shownList, valuesOf, tailOf, joined, lineAnswer}
+use Rattle.line.specs.Theorems.{FewValues, NoLonger, EighthEmpty}
 use Rattle.line.specs.Rows.{noRow, rowOf, rowsOf, rowText, tailRows, lineOf}
 
 -- ---- stores
@@ -134,11 +137,6 @@ module _ (f : ℕ → List ℕ) (fits : (c : ℕ) → Fits (f c)) where
       let e : rowsOf (map f (0 ∷ list)) ≡ map rowOf (map f (0 ∷ list)) ++ drop n (replicate 8 noRow) = sets-eq (map rowOf (map f (0 ∷ list))) (replicate 8 noRow) 0 (omega arith) ∙ rw zero-add in
       rw (e, row-text (f 0) (fits 0), tail-rows list (drop n (replicate 8 noRow)) (tail-none 8 n))
 
-  tail-le : (list : List ℕ) → length (tailOf (map f list)) ≤ 12 * length list
-  unfolding tailOf
-  tail-le [] = omega arith
-  tail-le (c ∷ list) = simp length-append (omega (arith, fits c .le, tail-le list))
-
 -- ---- the end
 
 pub length-end : (body : List ℕ) → length (closed body) ≡ length body + 2
@@ -146,11 +144,6 @@ unfolding closed endOf
 length-end body = simp length-append (omega arith)
 
 -- ---- the values of a line
-
--- source 0 has at most 10 characters
-front-le : (r : Readings) → length (lineValue r 0) ≤ 10
-unfolding lineValue widthOf pick
-front-le r = simp length-take (omega arith)
 
 width-some : (c : ℕ) → 1 ≤ widthOf c
 unfolding widthOf
@@ -171,28 +164,77 @@ pub line-is : (list : List ℕ) (r : Readings) → length list ≤ 7 → lineOf 
 unfolding valuesOf
 line-is list r h = line-rows (lineValue r) (value-fits r) list h
 
--- 10 characters, at most seven times 12 with each `;`, and the end
-pub line-le : (list : List ℕ) (r : Readings) → length list ≤ 7 → length (closed (joined (valuesOf list r))) ≤ 96
-unfolding valuesOf joined
-line-le list r h =
-    rw length-end (simp length-append (omega (arith, front-le r, tail-le (lineValue r) (value-fits r) list)))
+-- ---- how long a line can be
+
+-- the list shown is empty, or one that SM can have
+pub shown-listable : (codes list : List ℕ) → among codes 0 ≡ true → listable codes (shownList codes list) ≡ true
+unfolding shownList listable lone every among
+shown-listable codes list z = each (λ (l : List ℕ). listable codes l ≡ true) (not (listable codes list)) [] list (λ _. refl) (λ e. not-false _ e)
+
+pub few-values : FewValues
+unfolding valuesOf listable among
+few-values codes list r z =
+    let shown = shownList codes list in
+    let w = and-eq-true-iff (every (among codes) shown) (lone (0 ∷ shown)) .0 (shown-listable codes list z) in
+    omega (arith, at-most-all codes (0 ∷ shown) (line-known codes shown z (w .0)) (w .1), length-map (0 ∷ shown) (lineValue r))
+
+-- so a list that is shown has at most six entries
+pub shown-few : (list : List ℕ) → length (shownList (standard .sourceCodes) list) ≤ 6
+unfolding among
+shown-few list = at-most knownSources (shownList knownSources list) refl (shown-listable knownSources list refl)
+
+value-width : (r : Readings) (c : ℕ) → length (lineValue r c) ≤ widthOf c
+unfolding lineValue
+value-width r c = omega (arith, length-take (widthOf c) (valueText c r))
+
+-- each value with the `;` before it
+tail-le : (r : Readings) (list : List ℕ) → length (tailOf (map (lineValue r) list)) ≤ total (λ c. widthOf c + 1) list
+unfolding tailOf total
+tail-le r [] = omega arith
+tail-le r (c ∷ list) = simp length-append (omega (arith, value-width r c, tail-le r list))
+
+pub no-longer : NoLonger
+unfolding valuesOf joined longestLine listable total
+no-longer codes list r z =
+    let shown = shownList codes list in
+    let w = and-eq-true-iff (every (among codes) shown) (lone (0 ∷ shown)) .0 (shown-listable codes list z) in
+    rw length-end (simp length-append (omega (arith, value-width r 0, tail-le r shown, weights (λ c. widthOf c + 1) codes (0 ∷ shown) (line-known codes shown z (w .0)) (w .1))))
+
+pub line-le : (list : List ℕ) (r : Readings) → length (closed (joined (valuesOf (shownList (standard .sourceCodes) list) r))) ≤ 71
+unfolding among
+line-le list r = rw longest-is at (no-longer (standard .sourceCodes) list r refl)
+
+-- rows that are stored leave the others as they are
+row-left : (rows : List (List ℕ)) → length rows ≤ 7 → getD (sets (replicate 8 noRow) 0 rows) 7 [] ≡ noRow
+row-left rows h =
+    let n = length rows in
+    let e : sets (replicate 8 noRow) 0 rows ≡ rows ++ drop n (replicate 8 noRow) = sets-eq rows (replicate 8 noRow) 0 (omega arith) ∙ rw zero-add in
+    let k : n + (7 - n) ≡ 7 = omega arith in
+    rw e
+    (ap (λ (i : ℕ). getD (rows ++ drop n (replicate 8 noRow)) i []) (sym k) ∙ getD-append-add rows (drop n (replicate 8 noRow)) (7 - n) [] ∙ getD-drop n (replicate 8 noRow) (7 - n) [] ∙ ap (λ (i : ℕ). getD (replicate 8 noRow) i []) k)
+
+pub eighth-empty : EighthEmpty
+unfolding rowsOf valuesOf among
+eighth-empty list r =
+    let values = valuesOf (shownList (standard .sourceCodes) list) r in
+    row-left (map rowOf values) (omega (arith, length-map values rowOf, few-values (standard .sourceCodes) list r refl))
 
 -- ---- what is answered, by its tests
 
 module _ (room : ℕ) (h : Held) (r : Readings) where
-  pub no-room : room < 96 → lineAnswer room h r ≡ silent 1
+  pub no-room : room < 71 → lineAnswer room h r ≡ silent 1
   unfolding lineAnswer pick
   no-room k =
-      let e : ltb room (longestLine standard) ≡ true = rw longest-is (lt-ltb room 96 k) in
+      let e : ltb room (longestLine (standard .sourceCodes)) ≡ true = rw longest-is (lt-ltb room 71 k) in
       rw e
 
-  room-is : 96 ≤ room → ltb room (longestLine standard) ≡ false
-  room-is k = rw longest-is (le-ltb room 96 k)
+  room-is : 71 ≤ room → ltb room (longestLine (standard .sourceCodes)) ≡ false
+  room-is k = rw longest-is (le-ltb room 71 k)
 
-  pub no-line : 96 ≤ room → not (h .streaming) ≡ true → lineAnswer room h r ≡ silent 0
+  pub no-line : 71 ≤ room → not (h .streaming) ≡ true → lineAnswer room h r ≡ silent 0
   unfolding lineAnswer pick
   no-line k s = rw (room-is k, s)
 
-  pub a-line : 96 ≤ room → not (h .streaming) ≡ false → lineAnswer room h r ≡ record { number = 0; reply = closed (joined (valuesOf (h .list) r)) }
+  pub a-line : 71 ≤ room → not (h .streaming) ≡ false → lineAnswer room h r ≡ record { number = 0; reply = closed (joined (valuesOf (shownList (standard .sourceCodes) (h .list)) r)) }
   unfolding lineAnswer pick
   a-line k s = rw (room-is k, s)

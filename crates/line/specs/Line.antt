@@ -7,15 +7,20 @@ use lib.ListN.{take}
 use Rattle.buffer.specs.First.{_⇒_, first}
 use Rattle.buffer.specs.Answer.{Answer, silent}
 use Rattle.frames.specs.Checksum.{closed}
+use Rattle.sources.specs.Source.{listable}
 use Rattle.settings.specs.Limits.{standard, widthOf, longestLine}
 use Rattle.settings.specs.Settings.{Held}
 use Rattle.readings.specs.Reading.{valueText}
 use Rattle.readings.specs.declared.Readings.{Readings}
 
 -- the value of a source. None is wider than its source's width in a state that calls reach (source 0 is never negative); in another state
--- it is cut there, so that no line is longer than 96 bytes.
+-- it is cut there, so that no line is longer than the longest.
 unfoldable pub lineValue : Readings → ℕ → List ℕ
 lineValue r code = take (widthOf code) (valueText code r)
+
+-- the list that a line shows, where these are the gauge's sources: a list that SM could not have, which no call makes, is left out
+unfoldable pub shownList : List ℕ → List ℕ → List ℕ
+shownList codes list = first (not (listable codes list) ⇒ [] ∷ []) list
 
 -- "The line is source 0, then the list in order"
 unfoldable pub valuesOf : List ℕ → Readings → List (List ℕ)
@@ -31,12 +36,12 @@ unfoldable pub joined : List (List ℕ) → List ℕ
 joined [] = []
 joined (t ∷ ts) = t ++ tailOf ts
 
--- "with less than 96 bytes lent, ROOM, checked first"; "With SM 0 there is no line (0, length 0, nothing written)"; "A frameless stream
+-- with less than the longest line lent, "ROOM, checked first"; "With SM 0 there is no line (0, length 0, nothing written)"; "A frameless stream
 -- line has data, checksum and CR only."
 unfoldable pub lineAnswer : ℕ → Held → Readings → Answer
 lineAnswer room h r =
     first
-    (ltb room (longestLine standard) ⇒ silent 1
+    (ltb room (longestLine (standard .sourceCodes)) ⇒ silent 1
     ∷ not (h .streaming) ⇒ silent 0
     ∷ [])
-    (record { number = 0; reply = closed (joined (valuesOf (h .list) r)) })
+    (record { number = 0; reply = closed (joined (valuesOf (shownList (standard .sourceCodes) (h .list)) r)) })

@@ -6,13 +6,13 @@ ghost use lib.ListN.{length, take, drop};
 ghost use Rattle.buffer.specs.Text.{textOf};
 ghost use Rattle.buffer.specs.Answer.{Stored, Sent};
 ghost use Rattle.sources.specs.Source.{listOf};
-ghost use Rattle.settings.specs.Limits.{widthOf};
+ghost use Rattle.settings.specs.Limits.{standard, widthOf};
 ghost use Rattle.settings.specs.Settings.{held};
-ghost use Rattle.line.specs.Line.{valuesOf, lineAnswer};
+ghost use Rattle.line.specs.Line.{valuesOf, shownList, lineAnswer};
 ghost use Rattle.line.specs.Rows.{rowOf, rowsOf, rowText, tailRows, lineOf};
 
-// The longest line.
-pub const ROOM: usize = 96;
+// The longest line: seven values.
+pub const ROOM: usize = 71;
 
 // The widest value of a source, by its code.
 fn width(code: u8) -> usize
@@ -92,6 +92,16 @@ fn put_tail(out: &mut [u8], at: usize, rows: [[u8; 11]; 8]) -> usize
     p
 }
 
+// The list that the line shows: none where SM could not have it, which no call makes.
+fn shown_list(q: sources::Sources) -> sources::Sources
+    ensures { λ r. ⌜ listOf r ≡ shownList (standard .sourceCodes) (listOf q) ⌝ }
+{
+    if sources::is_listable(q) {
+        return q;
+    }
+    sources::Sources::NONE
+}
+
 // Writes the line of these rows at the front of out, and returns its length.
 fn write_line(out: &mut [u8], rows: [[u8; 11]; 8]) -> usize
     requires { ⌜ length (lineOf rows) ≤ length (now out) ⌝ }
@@ -115,8 +125,7 @@ pub fn stream_line(s: settings::Settings, r: readings::Readings, out: &mut [u8])
     if !streaming {
         return buffer::Written { number: 0, len: 0 };
     }
-    let list = s.sources;
-    let rows = rows_of(list, r);
+    let rows = rows_of(shown_list(s.sources), r);
     let len = write_line(out, rows);
     buffer::Written { number: 0, len }
 }

@@ -19,7 +19,7 @@ use Rattle.decimal.specs.Number.{plus, minus, belowOf, countedOf, hundredthsOf}
 use Rattle.decimal_text.specs.Written.{writtenOf, signText, trimmed, pointed, exponentText, wholeText, twoDecimals}
 use Rattle.sources.specs.Entries.{onto, parts, sourceTexts, entriesOf, opens, entriesNumber, entriesList}
 use Rattle.sources.specs.Source.{sourceText, isSource, findSource, sourceOf, listText}
-use Rattle.settings.specs.Limits.{widthOf, widest, longestLine}
+use Rattle.settings.specs.Limits.{widthOf, longestLine}
 use Rattle.settings.specs.Sent.{unitText, transitionText, streamText, readText}
 use Rattle.settings.specs.Settings.{factoryOf, putOf, restoreOf}
 use Rattle.settings.specs.declared.Key.the-variants.{C1}
@@ -70,7 +70,7 @@ sent request = tableAnswer fresh 64 (bytes request) .reply
 abbrev pub lineAfter : String → List ℕ
 lineAfter request =
     let g = nextOf (benched fresh (benchOf (Reads 0 (decimals 9734 1)))) 64 (bytes request) in
-    lineAnswer 96 (g .settings) (g .readings) .reply
+    lineAnswer 71 (g .settings) (g .readings) .reply
 
 -- the data of a frameless line, whose end is their checksum and CR; of other bytes nothing
 abbrev pub lineData : List ℕ → List ℕ

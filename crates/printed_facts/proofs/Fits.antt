@@ -7,7 +7,7 @@ use lib.ListN.{length, length-append}
 use Rattle.error_texts.specs.Texts.{errorBytes}
 use Rattle.error_texts.specs.declared.ErrorText.the-variants.{Length, Logic, NoDef, Syntax, Range, Error1}
 use Rattle.decimal_text.proofs.Laws.{two-le}
-use Rattle.sources.specs.Source.{mostEntries}
+use Rattle.sources.specs.Source.{capacity}
 use Rattle.sources.proofs.Laws.{list-text-le}
 use Rattle.settings.specs.Sent.{unitText, streamText, readText}
 use Rattle.settings.specs.declared.PressureUnit.{PressureUnit}
@@ -22,7 +22,7 @@ unit-le Mbar = omega arith
 unit-le Torr = omega arith
 unit-le HPa = omega arith
 
-stream-le : (on : Bool) (list : List ℕ) → length list ≤ mostEntries → length (streamText on list) ≤ 22
+stream-le : (on : Bool) (list : List ℕ) → length list ≤ capacity → length (streamText on list) ≤ 22
 unfolding streamText
 stream-le true list few = simp length-append (omega (arith, list-text-le list))
 stream-le false list few = omega arith

@@ -16,7 +16,7 @@ use Rattle.readings.specs.Measure.{measureText}
 use Rattle.requests.specs.declared.RequestV2.{RequestV2}
 use Rattle.request_texts.specs.RequestText.{dataV2, dataV1, headFor, headForV1}
 use Rattle.requests.specs.declared.RequestV1.{RequestV1}
-use Rattle.sources.specs.Source.{mostEntries}
+use Rattle.sources.specs.Source.{capacity}
 use Rattle.buffer.specs.Byte.{within, Printed}
 use Rattle.frame_writer.specs.Sendable.{SendableV2, SendableV1}
 
@@ -54,7 +54,7 @@ ErrorLe = (e : ErrorText) → length (errorBytes e) ≤ 6
 
 -- what a read of a setting sends has at most 24, where the list has at most seven sources, as every accepted list has
 abbrev pub ReadLe : Type 0
-ReadLe = (h : Held) → length (h .list) ≤ mostEntries → (key : Key) → length (readText key h) ≤ 24
+ReadLe = (h : Held) → length (h .list) ≤ capacity → (key : Key) → length (readText key h) ≤ 24
 
 -- the data of a V1 request have at most six
 abbrev pub DataV1Le : Type 0

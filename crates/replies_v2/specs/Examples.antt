@@ -94,8 +94,14 @@ cases =
     ∷ reads (ask.Read (Of ST)) "0011ST02D5D" (0 ∷ 7 ∷ bytes "STD5e0")
     -- the list stands beside the answer
     ∷ record { address = 1; request = ask.Read (Of SM); frame = bytes "0011SM064D7DT2A" ++ (13 ∷ []); shown = 0 ∷ 7 ∷ bytes "SM4"; list = 7 ∷ 8 ∷ [] }
-    -- eight entries
-    ∷ reads (ask.Read (Of SM)) "0011SM174D7D7D7D7D7D7D7D7V" (11 ∷ [])
+    ∷ record { address = 1; request = ask.Read (Of SM); frame = bytes "0011SM154D1D2D6D7DT2DT6t" ++ (13 ∷ []); shown = 0 ∷ 7 ∷ bytes "SM4"; list = 1 ∷ 2 ∷ 6 ∷ 7 ∷ 8 ∷ 9 ∷ [] }
+    ∷ reads (ask.Read (Of SM)) "0011SM014w" (0 ∷ 7 ∷ bytes "SM4")
+    -- a repeat or a listed `0`, after 10 and 11
+    ∷ reads (ask.Read (Of SM)) "0011SM054D7D7q" (12 ∷ [])
+    ∷ reads (ask.Read (Of SM)) "0011SM034D0m" (12 ∷ [])
+    ∷ reads (ask.Read (Of SM)) "0011SM174D7D7D7D7D7D7D7D7V" (12 ∷ [])
+    ∷ reads (ask.Read (Of SM)) "0011SM074D7D7D9p" (11 ∷ [])
+    ∷ reads (ask.Read (Of SM)) "0011SM064D7D7XJ" (10 ∷ [])
     ∷ reads (ask.Read (Of SM)) "0011SM030D7p" (10 ∷ [])
     ∷ reads (ask.Read (Of DA)) "0011DA03017B" (11 ∷ [])
     ∷ reads (ask.Read (Of DU)) "0011DU03Pa O" (10 ∷ [])

@@ -62,7 +62,7 @@ dataReply (request.Read c) s = valueReply c s
 dataReply (request.Restore c) s = doneReply s
 dataReply (request.Set x) s = doneReply s
 
--- a head and its data: "14 (access neither request plus 1 nor 7, or another command), 10, 11"
+-- a head and its data: "14 (access neither request plus 1 nor 7, or another command), 10, 11", and 12 for SM's list
 unfoldable pub bodyReply : RequestV2 → HeadV2 → List ℕ → ReadV2
 bodyReply r h s =
     first
@@ -71,7 +71,7 @@ bodyReply r h s =
     ∷ [])
     (dataReply r s)
 
--- any bytes: "in the order 2 (V1 frames too), 3, 4, 5, 6", and then 14, 10 and 11
+-- any bytes: "in the order 2 (V1 frames too), 3, 4, 5, 6", and then 14, 10, 11 and 12
 unfoldable pub readV2 : ℕ → RequestV2 → List ℕ → ReadV2
 readV2 address r s =
     first

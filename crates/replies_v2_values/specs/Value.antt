@@ -1,5 +1,5 @@
 -- The data of a reply to a read: its value by the column "Data", 10 SYNTAX where they are not of the command's form, 11 RANGE where a number
--- lies outside the limits of the table or the bench.
+-- lies outside the limits of the table or the bench or a source is unknown, 12 LOGIC for a repeat or a listed `0` in SM's list.
 use mathlib.Core.Path.{_≡_}
 use mathlib.Core.Bool.{Bool, not}
 use mathlib.Core.List.{List, [], _∷_}
@@ -78,7 +78,7 @@ unfoldable pub heldReply : Verdict → ReadV2
 heldReply (verdict.Set x) = Read (Holds x)
 heldReply (verdict.Refused k) = ReadV2.Refused k
 
--- ST: "each 1 to 20", in any order: this reader has no 12. SYNTAX of either number comes before RANGE of the other
+-- ST: "each 1 to 20", in any order: this reader has 12 for lists only. SYNTAX of either number comes before RANGE of the other
 unfoldable pub bothEnds : Limited → Limited → ReadV2
 bothEnds (Fine low) (Fine high) = Read (Holds (Switch (Between low high)))
 bothEnds (Fine low) (Limited.Refused k) = ReadV2.Refused k

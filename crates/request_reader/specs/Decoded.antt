@@ -1,5 +1,5 @@
 -- Any bytes as a typed request, whatever the gauge's state: the address and the request, or the first refusal of document 01's table that needs
--- no state, 2 to 4 and 6 to 12. (5 needs the gauge's address; 12 is ST's F and T alone.)
+-- no state, 2 to 4 and 6 to 12. (5 needs the gauge's address; 12 is ST's F and T, and SM's list.)
 use mathlib.Core.Path.{_≡_}
 use mathlib.Core.Bool.{not}
 use mathlib.Core.List.{List, [], _∷_}

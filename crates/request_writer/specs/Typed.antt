@@ -1,15 +1,16 @@
 -- Document 01, "The master's side": the values of typed requests, judged "by the rules above": 9, 10, 11 or 12.
 use mathlib.Core.Bool.{Bool, not, _&&_}
-use mathlib.Core.List.{[], _∷_}
+use mathlib.Core.List.{List, [], _∷_}
 use Prim.Native.Nat.{ℕ}
 use lib.Dec.{ltb, leb, eqb}
+use lib.ListN.{length}
 use Rattle.buffer.specs.First.{_⇒_, first}
 use Rattle.buffer.specs.Byte.{within, every}
 use Rattle.decimal.specs.Exact.{normalOf}
 use Rattle.decimal.specs.declared.Number.{Number}
 use Rattle.decimal.specs.declared.Exact.{Exact}
 use Rattle.decimal.specs.declared.Hundredths.the-variants.{Whole}
-use Rattle.sources.specs.Source.{knownSources, among, mostEntries, listOf}
+use Rattle.sources.specs.Source.{knownSources, among, lone, listOf}
 use Rattle.sources.specs.declared.Sources.{Sources}
 use Rattle.settings.specs.Limits.{standard, isFactor}
 use Rattle.settings.specs.declared.Transition.{Transition}
@@ -58,13 +59,14 @@ judgedDigit x (Digit.Refused k) = verdict.Refused k
 unfoldable pub typedAddress : ℕ → Verdict
 typedAddress a = first (not (within (standard .addressLow) (standard .addressHigh) a) ⇒ verdict.Refused 11 ∷ []) (verdict.Set (Address a))
 
--- SM: "`0` with a list is SYNTAX"; a source that is not among the gauge's, and an eighth entry, are RANGE
-unfoldable pub typedStream : Bool → Sources → Verdict
-typedStream on q =
+-- SM: "`0` with a list is SYNTAX"; a source that is not among the gauge's is RANGE; "a repeat or a listed `0` is 12 LOGIC, after RANGE, at the
+-- writer .. too"
+unfoldable pub typedStream : Bool → List ℕ → Verdict
+typedStream on list =
     first
-    ((not on && not (eqb (q .count) 0)) ⇒ verdict.Refused 10
-    ∷ not (every (among knownSources) (listOf q)) ⇒ verdict.Refused 11
-    ∷ ltb mostEntries (q .count) ⇒ verdict.Refused 11
+    ((not on && not (eqb (length list) 0)) ⇒ verdict.Refused 10
+    ∷ not (every (among knownSources) list) ⇒ verdict.Refused 11
+    ∷ not (lone (0 ∷ list)) ⇒ verdict.Refused 12
     ∷ [])
     (verdict.Set (Stream on))
 
@@ -77,7 +79,7 @@ typedVerdict (Control d) q = judgedDigit (Control d) (typedDigit (standard .cont
 typedVerdict (Cathode d) q = judgedDigit (Cathode d) (typedDigit (standard .cathodeHigh) d)
 typedVerdict (Filament d) q = judgedDigit (Filament d) (typedDigit (standard .filamentHigh) d)
 typedVerdict (Switch t) q = transitionOf (endsIn t)
-typedVerdict (Stream on) q = typedStream on q
+typedVerdict (Stream on) q = typedStream on (listOf q)
 
 -- a typed V2 request: 9 where the command lacks the access
 unfoldable pub formedV2 : RequestV2 → Sources → AskV2

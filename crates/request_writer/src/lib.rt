@@ -79,17 +79,16 @@ fn is_idle_list(on: bool, count: usize) -> bool
 }
 
 fn typed_stream(on: bool, q: sources::Sources) -> Verdict
-    ensures { λ r. ⌜ r ≡ typedStream on q ⌝ }
+    ensures { λ r. ⌜ r ≡ typedStream on (listOf q) ⌝ }
 {
-    let count = q.count;
-    if is_idle_list(on, count) {
+    if is_idle_list(on, q.size()) {
         return Verdict::Refused(10);
     }
     if !sources::all_known(q) {
         return Verdict::Refused(11);
     }
-    if sources::Sources::MOST < count {
-        return Verdict::Refused(11);
+    if !sources::stand_once(q) {
+        return Verdict::Refused(12);
     }
     Verdict::Set(Setting::Stream(on))
 }

@@ -50,6 +50,9 @@ syntax = inl refl
 range : Number 11
 range = inr (inl refl)
 
+logic : Number 12
+logic = inr (inr refl)
+
 any : (k : ℕ) → Low k → Number k
 any k (inl e) = inl e
 any k (inr e) = inr (inl e)
@@ -146,7 +149,8 @@ stream-told s n =
     (λ _. each Told (eqb n 10) (Verdict.Refused 10) _ (λ _. syntax)
     (λ _. each Told (idleList s) (Verdict.Refused 10) _ (λ _. syntax)
     (λ _. each Told (not (knownMode s)) (Verdict.Refused 11) _ (λ _. range)
-    (λ _. each Told (eqb n 11) (Verdict.Refused 11) (Set (Stream (startsWith 52 s))) (λ _. range) (λ _. tt)))))
+    (λ _. each Told (eqb n 11) (Verdict.Refused 11) _ (λ _. range)
+    (λ _. each Told (eqb n 12) (Verdict.Refused 12) (Set (Stream (startsWith 52 s))) (λ _. logic) (λ _. tt))))))
 
 told : (key : Key) (s : List ℕ) → Told (verdictOf key s)
 unfolding verdictOf streamData

@@ -106,7 +106,9 @@ casesV2 =
     ∷ v2 "2ST" "F5T5" (Refused 12)
     ∷ v2 "2ST" "F25T21" (Refused 11)
     ∷ v2 "2ST" "F25T" (Refused 10)
-    ∷ stream "4D7D7D7D7D7D7D7D7" (Refused 11) []
+    ∷ stream "4D7D7D7D7D7D7D7D7" (Refused 12) []
+    ∷ stream "4D0" (Refused 12) []
+    ∷ stream "4D7D7D3" (Refused 11) []
     ∷ stream "0D7" (Refused 10) []
     ∷ []
 

@@ -151,7 +151,7 @@ sofar (show {h} {g} {before} {after} {w} t a) =
     let c = sofar t in
     let e = lined before (w .number) (w .len) after in
     record {
-      answers = ((sent-too (ap (λ (m : State). lineAnswer (length before) (m .settings) (m .readings)) (c .holds)) a, sent-within (line-within-lent (length before) (held (g .settings)) (g .readings) (c .sound .settings .list .few)) a), c .answers);
+      answers = ((sent-too (ap (λ (m : State). lineAnswer (length before) (m .settings) (m .readings)) (c .holds)) a, sent-within (line-within-lent (length before) (held (g .settings)) (g .readings)) a), c .answers);
       holds = c .holds;
       setting = λ key. follows (saysSetting key) (holding key factory) e h _ _ (c .setting key) (unsaid _);
       reading = c .reading;
@@ -166,13 +166,13 @@ shows-whole g f =
       p .0,
       p .1,
       λ before after w s on room.
-          let e = line-shown (g .readings) (f .readings) (held (g .settings)) (length before) (p .0) (p .1) on room in
+          let e = line-shown (g .readings) (f .readings) (held (g .settings)) (f .settings .list) (length before) (p .0) (p .1) on room in
           (s .number ∙ ap (λ (a : Answer). a .number) e, sent-bytes s ∙ ap (λ (a : Answer). a .reply) e),
     )
 
--- and has at most 96 bytes
-line-low : (g : Gauge) → SoundState (stateOf g) → (room : ℕ) → length (lineAnswer room (held (g .settings)) (g .readings) .reply) ≤ 96
-line-low g f room = rw longest-is at (line-fits room (held (g .settings)) (g .readings) (f .settings .list .few))
+-- and has at most 71 bytes
+line-low : (g : Gauge) (room : ℕ) → length (lineAnswer room (held (g .settings)) (g .readings) .reply) ≤ 71
+line-low g room = rw longest-is at (line-fits room (held (g .settings)) (g .readings))
 
 -- THE THEOREM
 pub claimed : Claimed
@@ -189,5 +189,5 @@ claimed h g t =
       line-is = λ before after w f. sent-too (ap (λ (m : State). lineAnswer (length before) (m .settings) (m .readings)) (c .holds)) f;
       line-shows = shows-whole g (c .sound);
       line-values = λ before after w s. rw (sent-bytes s) (line-few (length before) (held (g .settings)) (g .readings) (c .sound .settings .list) (c .sound .readings));
-      line-bytes = λ before after w s. (rw (sent-bytes s) (sym (s .len)), rw (s .len) (line-low g (c .sound) (length before)));
+      line-bytes = λ before after w s. (rw (sent-bytes s) (sym (s .len)), rw (s .len) (line-low g (length before)));
     }

@@ -2,9 +2,11 @@
 use mathlib.Core.Path.{_≡_, refl, sym, ap, subst, _∙_}
 use mathlib.Core.List.{List, [], _∷_, _++_, map}
 use Prim.Native.Nat.{ℕ, _≤_}
+use native.Mathlib.Omega.{arith}
 use lib.ListN.{length, replicate}
 use lib.Seq.{take-take, take-append-seam}
-use Rattle.sources.specs.Source.{mostEntries, listOf}
+use Rattle.forms_facts.proofs.Lemmas.Lists.{at-most-six}
+use Rattle.sources.specs.Source.{capacity, listOf}
 use Rattle.readings.specs.Bench.{benchOf, benchNumber}
 use Rattle.line.specs.Line.{lineAnswer}
 use Rattle.gauge_table.specs.After.{answerOf as tableAnswer, nextOf, benched}
@@ -25,15 +27,15 @@ use Rattle.sequence_facts.proofs.Claimed.{claimed}
 use Rattle.line.proofs.Open.{line-open}
 use Rattle.gauge_table.proofs.Open.{gauge-table-open}
 
-list-back : (list : List ℕ) → length list ≤ mostEntries → listOf (sourcesOf list) ≡ list
+list-back : (list : List ℕ) → length list ≤ capacity → listOf (sourcesOf list) ≡ list
 unfolding listOf
-list-back list h = take-take (length list) mostEntries (list ++ replicate mostEntries 0) h ∙ take-append-seam list (replicate mostEntries 0)
+list-back list h = take-take (length list) capacity (list ++ replicate capacity 0) h ∙ take-append-seam list (replicate capacity 0)
 
 pub holds-back : (m : State) → SoundState m → stateOf (gaugeOf m) ≡ m
 holds-back m f =
     ap
     (λ (list : List ℕ). settled m (record { address = m .settings .address; unit = m .settings .unit; factor = m .settings .factor; control = m .settings .control; cathode = m .settings .cathode; filament = m .settings .filament; transition = m .settings .transition; streaming = m .settings .streaming; list = list }))
-    (list-back (m .settings .list) (f .settings .list .few))
+    (list-back (m .settings .list) (omega (arith, at-most-six (m .settings .list) (f .settings .list))))
 
 -- the answer that the rules fix
 abbrev written : Answer → Written

@@ -132,9 +132,9 @@ saysUnlock (lined before number len after) = none
 abbrev pub LineOf : Gauge → List ℕ → List ℕ → Written → Type 0
 LineOf g before after w = Sent before (lineAnswer (length before) (held (g .settings)) (g .readings)) after w
 
--- while it sends lines and 96 bytes are lent, it answers 0 and writes the line of what stands at these places
+-- while it sends lines and 71 bytes are lent, it answers 0 and writes the line of what stands at these places
 abbrev pub Shows : Gauge → List Place → Type 0
-Shows g places = (before after : List ℕ) (w : Written) → LineOf g before after w → g .settings .streaming ≡ true → 96 ≤ length before
+Shows g places = (before after : List ℕ) (w : Written) → LineOf g before after w → g .settings .streaming ≡ true → 71 ≤ length before
     → (w .number ≡ 0) × (take (w .len) after ≡ shownLine (g .readings) places)
 
 pub record Claim (h : History) (g : Gauge) : Type 0 where
@@ -153,8 +153,9 @@ pub record Claim (h : History) (g : Gauge) : Type 0 where
   pub below : (low high : Number) → g .settings .transition ≡ Between low high → belowOf low high ≡ true
   -- "A text gauge then asked for the stream line, with any memory lent, answers and writes exactly what document 01 fixes from the book"
   pub line-is : (before after : List ℕ) (w : Written) → LineOf g before after w → Sent before (lineAnswer (length before) (model h .settings) (model h .readings)) after w
-  -- "The line is source 0, then the list in order, joined by `;`": each place shows the reading that stands at its source, whole
+  -- "The line is source 0, then the list in order, joined by `;`": each place shows the reading that stands at its source. Nothing is cut: the
+  -- list is whole, and so is each value
   pub line-shows : (places : List Place) × Listed (held (g .settings) .list) places × Shows g places
-  -- "the line never has more than eight values or 96 bytes", whatever memory is lent: counted on the bytes that were written
-  pub line-values : (before after : List ℕ) (w : Written) → LineOf g before after w → valuesIn (take (w .len) after) ≤ 8
-  pub line-bytes : (before after : List ℕ) (w : Written) → LineOf g before after w → (length (take (w .len) after) ≡ w .len) × (w .len ≤ 96)
+  -- the line never has more than seven values or 71 bytes, whatever memory is lent: counted on the bytes that were written
+  pub line-values : (before after : List ℕ) (w : Written) → LineOf g before after w → valuesIn (take (w .len) after) ≤ 7
+  pub line-bytes : (before after : List ℕ) (w : Written) → LineOf g before after w → (length (take (w .len) after) ≡ w .len) × (w .len ≤ 71)

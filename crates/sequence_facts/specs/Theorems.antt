@@ -22,6 +22,6 @@ Plays = (cs : List Call) → map callOf (play cs) ≡ cs
 abbrev pub Only : Type 0
 Only = (h : History) (g : Gauge) → Trace h g → h ≡ play (map callOf h)
 
--- "the line never has more than eight values or 96 bytes, and after some such sequence it has both"
+-- the line never has more than seven values or 71 bytes, "and after some such sequence it has both"
 abbrev pub LongestReached : Type 0
 LongestReached = Reached longest

@@ -5,12 +5,13 @@ use mathlib.Core.List.{List, [], _∷_, _++_, map}
 use Prim.Native.Nat.{ℕ}
 use lib.ListN.{length, take, replicate}
 use Rattle.buffer.specs.Quoted.{bytes}
-use Rattle.sources.specs.Source.{mostEntries}
+use Rattle.sources.specs.Source.{capacity}
 use Rattle.readings.specs.Bench.{benchOf, benchNumber}
 use Rattle.line.specs.Line.{lineAnswer}
 use Rattle.gauge_table.specs.After.{answerOf as tableAnswer}
 use Rattle.buffer.specs.Answer.{over}
 use Rattle.sources.specs.declared.Sources.{Sources}
+use Rattle.decimal.specs.declared.Exact.{Exact}
 use Rattle.readings.specs.declared.Bench.{Bench}
 use Rattle.readings.specs.declared.Bench.the-variants.{Reads}
 use Rattle.gauge_rules.specs.State.{State, stateOf, settled, fresh}
@@ -20,7 +21,7 @@ use Rattle.sequence_facts.specs.Shown.{valuesIn}
 
 -- a gauge that holds what the model holds
 abbrev pub sourcesOf : List ℕ → Sources
-sourcesOf list = record { codes = take mostEntries (list ++ replicate mostEntries 0); count = length list }
+sourcesOf list = record { codes = take capacity (list ++ replicate capacity 0); count = length list }
 
 abbrev pub gaugeOf : State → Gauge
 gaugeOf m =
@@ -58,13 +59,27 @@ play (c ∷ cs) = exchange (model (play cs)) c ∷ play cs
 
 -- ---- the longest line
 
--- source 0 at 1.23456e-9, source 7 at -1.23456e-9, and seven times source 7 on the line
+abbrev pub low : Exact
+low = record { negative = false; digits = 123456; up = 0; down = 14 }
+
+abbrev pub lowest : Exact
+lowest = record { negative = true; digits = 123456; up = 0; down = 14 }
+
+abbrev pub cold : Exact
+cold = record { negative = true; digits = 4000; up = 0; down = 2 }
+
+-- sources 0, 1, 2 and 6 at 1.23456e-9, 7 at -1.23456e-9, both temperatures at -40.00, and all of them on the line
 abbrev pub longest : List Call
 longest =
-    shows (replicate 96 0)
-    ∷ asks (bytes "0012SM154D7D7D7D7D7D7D7Z" ++ (13 ∷ [])) (replicate 64 0)
-    ∷ tells (Reads 7 (record { negative = true; digits = 123456; up = 0; down = 14 }))
-    ∷ tells (Reads 0 (record { negative = false; digits = 123456; up = 0; down = 14 }))
+    shows (replicate 71 0)
+    ∷ asks (bytes "0012SM154D1D2D6D7DT2DT6u" ++ (13 ∷ [])) (replicate 64 0)
+    ∷ tells (Reads 9 cold)
+    ∷ tells (Reads 8 cold)
+    ∷ tells (Reads 7 lowest)
+    ∷ tells (Reads 6 low)
+    ∷ tells (Reads 2 low)
+    ∷ tells (Reads 1 low)
+    ∷ tells (Reads 0 low)
     ∷ []
 
 -- the memory after the latest call
@@ -74,10 +89,10 @@ memoryOf (asked s before number len after ∷ h) = after
 memoryOf (benchSet b number ∷ h) = []
 memoryOf (lined before number len after ∷ h) = after
 
--- "and after some such sequence it has both": eight values and 96 bytes. The memory of 96 bytes holds the line and nothing else
+-- "and after some such sequence it has both": seven values and 71 bytes. The memory of 71 bytes holds the line and nothing else
 pub record Reached (cs : List Call) : Type 0 where
   pub trace : Trace (play cs) (gaugeOf (model (play cs)))
   pub calls-are : map callOf (play cs) ≡ cs
-  pub values : valuesIn (memoryOf (play cs)) ≡ 8
-  pub line-is : memoryOf (play cs) ≡ bytes "1.23456e-9;-1.23456e-9;-1.23456e-9;-1.23456e-9;-1.23456e-9;-1.23456e-9;-1.23456e-9;-1.23456e-9H" ++ (13 ∷ [])
-  pub line-bytes : length (memoryOf (play cs)) ≡ 96
+  pub values : valuesIn (memoryOf (play cs)) ≡ 7
+  pub line-is : memoryOf (play cs) ≡ bytes "1.23456e-9;1.23456e-9;1.23456e-9;1.23456e-9;-1.23456e-9;-40.00;-40.00s" ++ (13 ∷ [])
+  pub line-bytes : length (memoryOf (play cs)) ≡ 71

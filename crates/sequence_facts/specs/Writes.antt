@@ -79,7 +79,7 @@ unfoldable pub entries : List ℕ → List ℕ
 entries [] = []
 entries (x ∷ s) = cond (eqb x 68) (sourceAt s ∷ entries s) (entries s)
 
--- SM: "`0` off, or `4` and up to seven sources"
+-- SM: "`0` off, or `4` and" a list of sources
 unfoldable pub streamIn : List ℕ → Option Value
 streamIn d = first (eqb (at d 0) 48 ⇒ some (Stream false, []) ∷ eqb (at d 0) 52 ⇒ some (Stream true, entries d) ∷ []) none
 

@@ -10,7 +10,8 @@ use Rattle.buffer.proofs.Laws.{within-true, within-in}
 use Rattle.decimal.specs.declared.Number.{Number}
 use Rattle.decimal_text.specs.Written.{writtenOf}
 use Rattle.decimal_text.proofs.Laws.{written-le}
-use Rattle.settings.specs.Limits.{standard, isFactor, widthOf, widest, longestLine}
+use Rattle.sources.specs.Source.{total}
+use Rattle.settings.specs.Limits.{standard, isFactor, widthOf, longestLine}
 use Rattle.settings.specs.Units.{unitNamed}
 use Rattle.settings.specs.Sent.{transitionText}
 use Rattle.settings.specs.declared.PressureUnit.{PressureUnit}
@@ -34,9 +35,8 @@ unfolding transitionText
 transition-le (Direct n) = simp length-append (omega (arith, eleven n))
 transition-le (Between a b) = simp length-append (omega (arith, eleven a, eleven b))
 
--- "Longest: 10 + 7 x 11 + 7 + 2 = 96 bytes"
 pub longest-is : LongestIs
-unfolding longestLine widest widthOf pick
+unfolding longestLine total widthOf pick
 longest-is = refl
 
 -- ---- the factor

@@ -1,12 +1,12 @@
 -- The limits of settings, of what the bench sets and of the stream line, each named once.
 use mathlib.Core.Bool.{Bool, true, false}
 use mathlib.Core.List.{List, [], _∷_}
-use Prim.Native.Nat.{ℕ, _+_, _*_, max}
+use Prim.Native.Nat.{ℕ, _+_}
 use lib.Dec.{eqb, leb}
 use Rattle.buffer.specs.First.{_⇒_, first}
 use Rattle.buffer.specs.Byte.{within}
 use Rattle.decimal.specs.declared.Number.{Number}
-use Rattle.sources.specs.Source.{knownSources, mostEntries}
+use Rattle.sources.specs.Source.{knownSources, total}
 use Rattle.settings.specs.declared.Transition.{Transition}
 use Rattle.settings.specs.declared.Transition.the-variants.{Between}
 
@@ -26,9 +26,8 @@ pub record Limits : Type 0 where
   -- whether the `F` form of ST exists beside the `D` form
   pub betweenForm : Bool
   pub factoryTransition : Transition
-  -- the sources that a list can name, and how many entries it can have
+  -- the gauge's sources
   pub sourceCodes : List ℕ
-  pub entries : ℕ
 
 -- the positive number of mantissa m at place p: m * 10 ^ p, in 10^-14
 abbrev pub positive : ℕ → ℕ → Number
@@ -50,7 +49,6 @@ standard =
       betweenForm = true;
       factoryTransition = Between (positive 500000 9) (positive 150000 10);
       sourceCodes = knownSources;
-      entries = mostEntries;
     }
 
 -- the limits of readings
@@ -76,10 +74,6 @@ isFactor n = within (standard .factorLow) (standard .factorHigh) n
 unfoldable pub widthOf : ℕ → ℕ
 widthOf code = first (eqb code 7 ⇒ 11 ∷ leb 8 code ⇒ 6 ∷ []) 10
 
-unfoldable pub widest : List ℕ → ℕ
-widest [] = 0
-widest (c ∷ cs) = max (widthOf c) (widest cs)
-
--- the longest line: source 0, then the entries, each after a `;`, the checksum and CR
-unfoldable pub longestLine : Limits → ℕ
-longestLine l = widthOf 0 + l .entries * (widest (l .sourceCodes) + 1) + 2
+-- the longest line of a gauge with these sources: the widest value of each, once, with a `;` after it or, after the last, the checksum; and CR
+unfoldable pub longestLine : List ℕ → ℕ
+longestLine codes = total (λ c. widthOf c + 1) codes + 1

@@ -2,6 +2,6 @@
 use mathlib.Core.Path.{_≡_}
 use Rattle.settings.specs.Limits.{standard, longestLine}
 
--- "Longest: 10 + 7 x 11 + 7 + 2 = 96 bytes"
+-- "The line then has at most seven values; work out the longest line anew": 10 + 10 + 10 + 10 + 11 + 6 + 6, six `;`, checksum and CR
 abbrev pub LongestIs : Type 0
-LongestIs = longestLine standard ≡ 96
+LongestIs = longestLine (standard .sourceCodes) ≡ 71

@@ -2,19 +2,20 @@
 use mathlib.Core.Path.{_≡_, refl, sym, _∙_}
 use mathlib.Core.Bool.{Bool, true, false, cond, _&&_, _||_}
 use mathlib.Core.List.{List, [], _∷_}
-use Prim.Native.Nat.{ℕ, zero, suc, _+_, _*_, _≤_, _<_}
+use Prim.Native.Nat.{ℕ, zero, suc, compare·suc-suc, _+_, _*_, _≤_, _<_}
 use native.Mathlib.Numerals.{add-one}
 use native.Mathlib.Omega.{arith}
-use borrow.Author.Tests.{lt-leb, ne-eqb}
-use lib.Dec.{eqb, leb}
+use borrow.Author.Tests.{lt-leb, lt-ltb, eq-eqb, ne-eqb, eqb-true}
+use lib.Dec.{eqb, leb, ltb}
 use lib.ListN.{length, getD, set, take, length-append, length-take, length-set, drop}
 use lib.Seq.{take-all}
 use Rattle.buffer.specs.Byte.{within, isDigit, every, untilOf, digit}
 use Rattle.buffer.specs.First.{pick}
 use Rattle.buffer.proofs.Rules.{each}
 use Rattle.buffer.proofs.Laws.{within-true, filled, full}
-use Rattle.sources.specs.Source.{isSource, sourceText, listText, listOf, Counted, Pushed}
+use Rattle.sources.specs.Source.{among, isSource, sourceText, listText, listOf, Counted, Pushed}
 use Rattle.sources.specs.declared.Sources.{Sources}
+use Rattle.sources.specs.Theorems.{CountFixed}
 use Rattle.sources.specs.Entries.{onto, parts, sourceTexts}
 
 -- ---- sources
@@ -97,6 +98,10 @@ pub list-few : (q : Sources) → length (q .codes) ≡ 7 → length (listOf q) �
 unfolding listOf
 list-few q h = simp length-take (omega arith)
 
+pub count-fixed : CountFixed
+unfolding listOf
+count-fixed q h k = omega (arith, length-take (q .count) (q .codes), k)
+
 -- ---- one source more
 
 pub pushed-full : (q : Sources) (code : ℕ) → length (q .codes) ≡ 7 → 7 ≤ q .count → Pushed q code (record { codes = q .codes; count = 7 })
@@ -108,3 +113,23 @@ pushed-full q code h k =
 pub pushed-in : (q : Sources) (code : ℕ) → length (q .codes) ≡ 7 → q .count < 7 → Pushed q code (record { codes = set (q .codes) (q .count) code; count = q .count + 1 })
 unfolding listOf Counted
 pushed-in q code h k = record { list = filled (q .codes) (q .count) 7 code h k; count = omega (arith, length-take (q .count + 1) (set (q .codes) (q .count) code), length-set (q .codes) (q .count) code) }
+
+-- ---- whether a code is among others
+
+pub eqb-sym : (a b : ℕ) → eqb a b ≡ eqb b a
+eqb-sym a b = go (eqb a b) refl
+  where
+    go : (t : Bool) → eqb a b ≡ t → t ≡ eqb b a
+    go true e = sym (eq-eqb b a (sym (eqb-true a b e)))
+    go false e = sym (ne-eqb b a (λ (h : b ≡ a). let z : false ≡ true = sym e ∙ eq-eqb a b (sym h) in let y : _≡_ {A = ℕ} 0 1 = cc in omega arith))
+
+pub among-until : (c : ℕ) (s : List ℕ) → among s c ≡ ltb (untilOf c s) (length s)
+unfolding among untilOf
+among-until c [] = refl
+among-until c (x ∷ s) = go (eqb c x) (eqb x c) (eqb-sym c x) (among-until c s)
+  where
+    go : (a b : Bool) → a ≡ b → among s c ≡ ltb (untilOf c s) (length s) → (a || among s c) ≡ ltb (cond b 0 (untilOf c s + 1)) (suc (length s))
+    go true true e h = sym (lt-ltb 0 (suc (length s)) (omega arith))
+    go true false e h = absurd (let z : _≡_ {A = ℕ} 0 1 = cc in omega arith)
+    go false true e h = absurd (let z : _≡_ {A = ℕ} 0 1 = cc in omega arith)
+    go false false e h = rw (add-one (untilOf c s), compare·suc-suc) h

@@ -1,15 +1,14 @@
 -- A text of entries, read from the front: what was read so far.
-use mathlib.Core.Path.{_≡_, sym, ap, _∙_}
-use mathlib.Core.Bool.{_&&_, and-assoc, and-true}
+use mathlib.Core.Path.{_≡_, sym, _∙_}
+use mathlib.Core.Bool.{true, _&&_, and-assoc, and-true}
 use mathlib.Core.List.{List, [], _∷_, _++_, map, append-assoc, append-nil}
-use Prim.Native.Nat.{ℕ, suc, _+_, _<_, _≤_}
-use native.Mathlib.Omega.{arith}
+use Prim.Native.Nat.{ℕ, suc, _+_, _<_}
 use lib.Dec.{eqb·suc-zero}
-use lib.ListN.{length, take, drop, length-map}
-use lib.Seq.{drop-drop, take-all}
+use lib.ListN.{length, take, drop}
+use lib.Seq.{drop-drop}
 use Rattle.buffer.specs.Byte.{every, untilOf}
 use Rattle.buffer.proofs.Laws.{drop-step, take-cut}
-use Rattle.sources.specs.Source.{sourceOf, knownSources, listOf, Counted}
+use Rattle.sources.specs.Source.{sourceOf, knownSources, capacity, lone, listOf, Counted}
 use Rattle.sources.specs.Entries.{entriesOf, sourceTexts, isFormed, isKnown, codeOf, entriesNumber, entriesList, Lists}
 use Rattle.sources.specs.Inner.{Taken, Ran}
 use Rattle.sources.specs.declared.Run.{Run}
@@ -17,6 +16,8 @@ use Rattle.sources.specs.declared.Listed.{Listed}
 use Rattle.sources.specs.declared.Sources.{Sources}
 use Rattle.sources.specs.declared.Source.{Source}
 use Rattle.sources.proofs.Laws.{parts-front}
+use Rattle.sources.proofs.Weights.{kept-whole, places-tell}
+use Rattle.sources.proofs.Known.{codes-known}
 
 -- the entry at i, and then those after it
 pub entries-step : (s : List ℕ) (i : ℕ) → i < length s
@@ -30,7 +31,6 @@ entries-step s i h =
 pub record Sofar (s : List ℕ) (run : Run) (left : List ℕ) : Type 0 where
   pub formed : (run .formed && every isFormed (entriesOf left)) ≡ every isFormed (entriesOf s)
   pub known : (run .known && every isKnown (entriesOf left)) ≡ every isKnown (entriesOf s)
-  pub count : run .count + length (entriesOf left) ≡ length (entriesOf s)
   pub sources : take 7 (listOf (run .sources) ++ map codeOf (entriesOf left)) ≡ take 7 (map codeOf (entriesOf s))
   pub few : take 7 (listOf (run .sources)) ≡ listOf (run .sources)
   pub counted : Counted (run .sources)
@@ -41,7 +41,6 @@ next {s} {left} {left′} {run} {r} e f t h =
     record {
       formed = rw (t .formed, and-assoc (run .formed) (isFormed e) (every isFormed (entriesOf left′))) (rw h at (f .formed));
       known = rw (t .known, and-assoc (run .known) (isKnown e) (every isKnown (entriesOf left′))) (rw h at (f .known));
-      count = omega (arith, t .count, f .count, ap length h);
       sources = rw (t .sources .list, take-cut 7 (listOf (run .sources) ++ (codeOf e ∷ [])) (map codeOf (entriesOf left′)), append-assoc) (rw h at (f .sources));
       few = rw (t .sources .list) (rw (append-nil, append-nil) at (take-cut 7 (listOf (run .sources) ++ (codeOf e ∷ [])) []));
       counted = t .sources .count;
@@ -53,7 +52,6 @@ ended {s} {run} f =
     record {
       formed = sym (and-true (run .formed)) ∙ f .formed;
       known = sym (and-true (run .known)) ∙ f .known;
-      count = omega (arith, f .count);
       list = sym (f .few) ∙ rw append-nil at (f .sources);
       counted = f .counted;
     }
@@ -64,6 +62,13 @@ pub denied : {s : List ℕ} (k : ℕ) {r : Listed} → entriesNumber s ≡ suc k
 unfolding entriesList
 denied k e f = record { number = f .0 ∙ sym e; list = rw (e, eqb·suc-zero) (f .1); count = f .2 }
 
-pub granted : {s : List ℕ} {q : Sources} → entriesNumber s ≡ 0 → length (entriesOf s) ≤ 7 → listOf q ≡ take 7 (map codeOf (entriesOf s)) → Counted q → Lists s (record { number = 0; sources = q })
-unfolding entriesList
-granted {s} e h f n = record { number = sym e; list = rw e (f ∙ take-all 7 (map codeOf (entriesOf s)) (rw length-map h)); count = n }
+-- an accepted text: its sources are known, and those that found a place stand once, so that they are all
+pub granted : {s : List ℕ} {q : Sources} → entriesNumber s ≡ 0 → every isKnown (entriesOf s) ≡ true → lone (0 ∷ map codeOf (entriesOf s)) ≡ true
+    → listOf q ≡ take capacity (map codeOf (entriesOf s)) → Counted q → Lists s (record { number = 0; sources = q })
+unfolding entriesList entriesOf
+granted {s} e k l f n = record { number = sym e; list = rw e (f ∙ kept-whole (map codeOf (entriesOf s)) (codes-known (sourceTexts s) k) l); count = n }
+
+-- whether those that found a place stand once is whether all do
+pub places-told : (s : List ℕ) (q : Sources) → every isKnown (entriesOf s) ≡ true → listOf q ≡ take capacity (map codeOf (entriesOf s)) → lone (0 ∷ listOf q) ≡ lone (0 ∷ map codeOf (entriesOf s))
+unfolding entriesOf
+places-told s q k f = rw f (places-tell (map codeOf (entriesOf s)) (codes-known (sourceTexts s) k))

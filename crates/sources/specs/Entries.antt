@@ -3,11 +3,11 @@ use mathlib.Core.Path.{_≡_}
 use mathlib.Core.Bool.{Bool, true, false, cond, not, _||_}
 use mathlib.Core.List.{List, [], _∷_, map}
 use Prim.Native.Nat.{ℕ}
-use lib.Dec.{eqb, ltb}
+use lib.Dec.{eqb}
 use lib.ListN.{length}
 use Rattle.buffer.specs.First.{_⇒_, first}
 use Rattle.buffer.specs.Byte.{at, every}
-use Rattle.sources.specs.Source.{sourceOf, knownSources, mostEntries, listOf, Counted}
+use Rattle.sources.specs.Source.{sourceOf, knownSources, lone, listOf, Counted}
 use Rattle.sources.specs.declared.Listed.{Listed}
 use Rattle.sources.specs.declared.Source.{Source}
 use Rattle.sources.specs.declared.Source.the-variants.{Known, Unknown, Malformed}
@@ -50,7 +50,8 @@ codeOf Malformed = 0
 unfoldable pub opens : List ℕ → Bool
 opens s = eqb (length s) 0 || eqb (at s 0) 68
 
--- how a text of entries is judged: 10 SYNTAX where it is not of the form; 11 RANGE for a source that is unknown here, and for an eighth entry
+-- how a text of entries is judged: 10 SYNTAX where it is not of the form; 11 RANGE for a source that is unknown here; "a repeat or a listed `0`
+-- is 12 LOGIC, after RANGE"
 unfoldable pub entriesNumber : List ℕ → ℕ
 entriesNumber s =
     let es = entriesOf s in
@@ -58,7 +59,7 @@ entriesNumber s =
     (not (opens s) ⇒ 10
     ∷ not (every isFormed es) ⇒ 10
     ∷ not (every isKnown es) ⇒ 11
-    ∷ ltb mostEntries (length es) ⇒ 11
+    ∷ not (lone (0 ∷ map codeOf es)) ⇒ 12
     ∷ [])
     0
 

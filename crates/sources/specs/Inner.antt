@@ -2,10 +2,10 @@
 use mathlib.Core.Path.{_≡_}
 use mathlib.Core.Bool.{_&&_}
 use mathlib.Core.List.{List, map}
-use Prim.Native.Nat.{ℕ, _+_}
-use lib.ListN.{length, take}
+use Prim.Native.Nat.{ℕ}
+use lib.ListN.{take}
 use Rattle.buffer.specs.Byte.{every}
-use Rattle.sources.specs.Source.{mostEntries, listOf, Counted, Pushed}
+use Rattle.sources.specs.Source.{capacity, listOf, Counted, Pushed}
 use Rattle.sources.specs.Entries.{entriesOf, isFormed, isKnown, codeOf}
 use Rattle.sources.specs.declared.Run.{Run}
 use Rattle.sources.specs.declared.Source.{Source}
@@ -14,13 +14,11 @@ use Rattle.sources.specs.declared.Source.{Source}
 pub record Taken (run : Run) (e : Source) (r : Run) : Type 0 where
   pub formed : r .formed ≡ (run .formed && isFormed e)
   pub known : r .known ≡ (run .known && isKnown e)
-  pub count : r .count ≡ run .count + 1
   pub sources : Pushed (run .sources) (codeOf e) (r .sources)
 
 -- r is all entries of a text
 pub record Ran (s : List ℕ) (r : Run) : Type 0 where
   pub formed : r .formed ≡ every isFormed (entriesOf s)
   pub known : r .known ≡ every isKnown (entriesOf s)
-  pub count : r .count ≡ length (entriesOf s)
-  pub list : listOf (r .sources) ≡ take mostEntries (map codeOf (entriesOf s))
+  pub list : listOf (r .sources) ≡ take capacity (map codeOf (entriesOf s))
   pub counted : Counted (r .sources)

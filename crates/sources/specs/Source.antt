@@ -1,8 +1,8 @@
 -- Sources and their texts.
 use mathlib.Core.Path.{_≡_}
-use mathlib.Core.Bool.{Bool, false, _&&_, _||_, not}
+use mathlib.Core.Bool.{Bool, true, false, _&&_, _||_, not}
 use mathlib.Core.List.{List, [], _∷_, _++_}
-use Prim.Native.Nat.{ℕ}
+use Prim.Native.Nat.{ℕ, _+_, _-_}
 use lib.Dec.{eqb}
 use lib.ListN.{length, take}
 use Rattle.buffer.specs.First.{_⇒_, first, pick}
@@ -21,9 +21,28 @@ unfoldable pub among : List ℕ → ℕ → Bool
 among [] c = false
 among (d ∷ codes) c = eqb c d || among codes c
 
--- "up to seven sources"
-abbrev pub mostEntries : ℕ
-mostEntries = 7
+-- how many codes the array of a list holds
+abbrev pub capacity : ℕ
+capacity = 7
+
+-- whether no source of a list stands twice
+unfoldable pub lone : List ℕ → Bool
+lone [] = true
+lone (c ∷ list) = not (among list c) && lone list
+
+-- whether SM can have a list, where these are the gauge's sources: each is one of them, and "a source may stand once in a stream list, and `0`,
+-- which is always first, may not be listed": of the sources of the line, `0` and then the list, none stands twice
+unfoldable pub listable : List ℕ → List ℕ → Bool
+listable codes list = every (among codes) list && lone (0 ∷ list)
+
+-- how many entries can pass: each source but `0`, once
+abbrev pub mostEntries : List ℕ → ℕ
+mostEntries codes = length codes - 1
+
+-- the sum of a weight over a list
+unfoldable pub total : (ℕ → ℕ) → List ℕ → ℕ
+total weight [] = 0
+total weight (c ∷ list) = weight c + total weight list
 
 -- the text of a source's code
 unfoldable pub sourceText : ℕ → List ℕ
@@ -52,7 +71,7 @@ Counted q = q .count ≡ length (listOf q)
 
 -- r is the list q and one source more; a full list stays as it is
 pub record Pushed (q : Sources) (code : ℕ) (r : Sources) : Type 0 where
-  pub list : listOf r ≡ take mostEntries (listOf q ++ (code ∷ []))
+  pub list : listOf r ≡ take capacity (listOf q ++ (code ∷ []))
   pub count : Counted r
 
 -- the text of a list: each entry is `D` and a source

@@ -1,11 +1,10 @@
-// The sources of the stream line and their list (document 01, "Settings and readings, V2").
+// The sources of the stream line and their list (document 01, "Settings and readings, V2"; document 02, "No repeated sources").
 ghost use mathlib.Core.Path.{_≡_};
 ghost use mathlib.Core.List.{[], _∷_, _++_};
-ghost use Prim.Native.Nat.{_+_, _^_, _<_};
 ghost use lib.ListN.{length};
 ghost use Rattle.buffer.specs.Byte.{every};
 ghost use Rattle.buffer.specs.Text.{textOf, cut};
-ghost use Rattle.sources.specs.Source.{knownSources, among, sourceOf, sourceText, listOf, Counted, Pushed, listText};
+ghost use Rattle.sources.specs.Source.{knownSources, among, lone, listable, sourceOf, sourceText, listOf, Counted, Pushed, listText};
 ghost use Rattle.sources.specs.Entries.{opens, Lists};
 ghost use Rattle.sources.specs.Inner.{Taken, Ran};
 
@@ -23,8 +22,8 @@ pub enum Source {
 }
 
 impl Sources {
-    // "up to seven sources"
-    pub const MOST: usize = 7;
+    // The places of the array. An accepted list fills six at most.
+    pub const CAPACITY: usize = 7;
 
     pub const NONE: Sources = Sources {
         codes: [0, 0, 0, 0, 0, 0, 0],
@@ -36,8 +35,8 @@ impl Sources {
         ensures { λ r. ⌜ Pushed self code r ⌝ }
     {
         let at = self.count;
-        if Sources::MOST <= at {
-            self.count = Sources::MOST;
+        if Sources::CAPACITY <= at {
+            self.count = Sources::CAPACITY;
             return self;
         }
         self.codes[at] = code;
@@ -50,10 +49,10 @@ impl Sources {
         ensures { λ r. ⌜ r ≡ length (listOf self) ⌝ }
     {
         let n = self.count;
-        if n < Sources::MOST {
+        if n < Sources::CAPACITY {
             return n;
         }
-        Sources::MOST
+        Sources::CAPACITY
     }
 }
 
@@ -103,6 +102,49 @@ pub fn all_known(q: Sources) -> bool
     let codes = q.codes;
     let n = q.size();
     all_codes(&codes[..n])
+}
+
+// Whether a code is one of these.
+fn has(codes: &[u8], c: u8) -> bool
+    ensures { λ r. ⌜ r ≡ among (now (codes .entry)) c ⌝ }
+{
+    buffer::until(codes, c) < codes.len()
+}
+
+// Whether no code stands twice.
+fn all_differ(codes: &[u8]) -> bool
+    ensures { λ r. ⌜ r ≡ lone (now (codes .entry)) ⌝ }
+{
+    let mut i: usize = 0;
+    while i < codes.len() {
+        if has(buffer::rest(codes, i + 1), codes[i]) {
+            return false;
+        }
+        i += 1;
+    }
+    true
+}
+
+// Whether no source stands twice on the line of a list: `0`, which is always first, and then the list.
+pub fn stand_once(q: Sources) -> bool
+    ensures { λ r. ⌜ r ≡ lone (0 ∷ listOf q) ⌝ }
+{
+    let codes = q.codes;
+    let n = q.size();
+    if has(&codes[..n], 0) {
+        return false;
+    }
+    all_differ(&codes[..n])
+}
+
+// Whether SM can have a list.
+pub fn is_listable(q: Sources) -> bool
+    ensures { λ r. ⌜ r ≡ listable knownSources (listOf q) ⌝ }
+{
+    if !all_known(q) {
+        return false;
+    }
+    stand_once(q)
 }
 
 // A source of one character.
@@ -160,38 +202,32 @@ pub fn source_of(t: &[u8]) -> Source
     Source::Malformed
 }
 
-// The entries that were read: whether each has the form, whether each is known, how many they are, and the first seven.
+// The entries that were read: whether each has the form, whether each is known, and those that found a place.
 pub struct Run {
     pub formed: bool,
     pub known: bool,
-    pub count: usize,
     pub sources: Sources,
 }
 
 // One entry more.
 fn taken(run: Run, e: Source) -> Run
-    requires { ⌜ run .count < 2 ^ 63 ⌝ }
     ensures { λ r. ⌜ Taken run e r ⌝ }
 {
     let list = run.sources;
-    let count = run.count + 1;
     match e {
         Source::Known(c) => Run {
             formed: run.formed,
             known: run.known,
-            count,
             sources: list.push(c),
         },
         Source::Unknown => Run {
             formed: run.formed,
             known: false,
-            count,
             sources: list.push(0),
         },
         Source::Malformed => Run {
             formed: false,
             known: false,
-            count,
             sources: list.push(0),
         },
     }
@@ -204,7 +240,6 @@ fn run_of(s: &[u8]) -> Run
     let mut run = Run {
         formed: true,
         known: true,
-        count: 0,
         sources: Sources::NONE,
     };
     let mut i: usize = 0;
@@ -226,7 +261,7 @@ fn is_open(s: &[u8]) -> bool
     s[0] == 68
 }
 
-// A text of entries as a list: 0, 10 SYNTAX or 11 RANGE, and the list, which is empty where it is refused.
+// A text of entries as a list: 0, 10 SYNTAX, 11 RANGE or 12 LOGIC, and the list, which is empty where it is refused.
 pub struct Listed {
     pub number: u8,
     pub sources: Sources,
@@ -241,7 +276,8 @@ fn refused(number: u8) -> Listed
     }
 }
 
-// Reads a text of entries. The list is never filled past its end, whatever the text.
+// Reads a text of entries, of any length. The list is never filled past its end; seven known sources hold a repeat or a `0`, so that an entry
+// without a place changes no answer.
 pub fn read_entries(s: &[u8]) -> Listed
     ensures { λ r. ⌜ Lists (now (s .entry)) r ⌝ }
 {
@@ -251,17 +287,16 @@ pub fn read_entries(s: &[u8]) -> Listed
     let run = run_of(s);
     let formed = run.formed;
     let known = run.known;
-    let count = run.count;
     if !formed {
         return refused(10);
     }
     if !known {
         return refused(11);
     }
-    if Sources::MOST < count {
-        return refused(11);
-    }
     let sources = run.sources;
+    if !stand_once(sources) {
+        return refused(12);
+    }
     Listed { number: 0, sources }
 }
 

@@ -79,7 +79,7 @@ module _ (room : ℕ) (enough : writerRoom ≤ room) (s : List ℕ) (d : Decoded
   unfolding requestWrittenV2 sentV2
   taken-v2 address r e =
       let h = rw (sym (read .request) ∙ e) at (read-fair s) in
-      let f = formed-as r (d .sources) (read .count) (rw (read .list) (h .1)) in
+      let f = formed-as r (d .sources) (rw (read .list) (h .1)) in
       sym (past _ _ _ _ (le-ltb room writerRoom enough) (past _ _ _ _ (ap not (h .0)) (rw (f, read .list))))
 
   taken-v1 : (address : ℕ) (r : RequestV1) → d .request ≡ V1 address r

@@ -17,7 +17,8 @@ use Rattle.frames.specs.declared.Frame.the-variants as frame
 use Rattle.frame_writer.specs.Written.{frameV1, frameV2}
 use Rattle.frames_facts.specs.ReadBack.{ReadV2, ReadV1}
 use Rattle.frames_facts.proofs.ReadBack.{read-back-v2, read-back-v1}
-use Rattle.sources.specs.Source.{mostEntries, listOf}
+use Rattle.forms_facts.proofs.Lemmas.Lists.{at-most-six}
+use Rattle.sources.specs.Source.{capacity, listOf}
 use Rattle.sources.specs.declared.Sources.{Sources}
 use Rattle.settings.specs.Limits.{isFactor}
 use Rattle.settings.specs.Settings.{keyOf, factory, putOf}
@@ -55,7 +56,7 @@ Fits (Read c) list = Unit {0}
 Fits (Restore c) list = Unit {0}
 Fits (Set y) list = ListFits y list
 
-put-few : (y : Setting) (list : List ℕ) → ListFits y list → length (putOf factory y list .list) ≤ mostEntries
+put-few : (y : Setting) (list : List ℕ) → ListFits y list → length (putOf factory y list .list) ≤ capacity
 unfolding putOf
 put-few (Address v) list k = omega arith
 put-few (PressureIn v) list k = omega arith
@@ -64,7 +65,7 @@ put-few (Control v) list k = omega arith
 put-few (Cathode v) list k = omega arith
 put-few (Filament v) list k = omega arith
 put-few (Switch v) list k = omega arith
-put-few (Stream v) list k = k .0 .few
+put-few (Stream v) list k = omega (arith, at-most-six list (k .0))
 
 data-le : (r : RequestV2) (list : List ℕ) → Fits r list → length (dataV2 r list) ≤ 99
 unfolding dataV2

@@ -87,11 +87,21 @@ cases =
     ∷ refused (asks (Set (Switch (Between (number 15 14) (number 5 14))))) 12
     ∷ refused (asks (Set (Switch (Between (number 25 14) (number 5 14))))) 11
     -- SM
-    ∷ refused (streams false 1 sevens) 10
-    ∷ refused (streams true 8 sevens) 11
+    ∷ refused (streams false 2 sevens) 10
     ∷ refused (streams true 1 (3 ∷ 0 ∷ 0 ∷ 0 ∷ 0 ∷ 0 ∷ 0 ∷ [])) 11
+    -- a repeat or a listed `0`; places past the count do not count
+    ∷ refused (streams true 2 sevens) 12
+    ∷ refused (streams true 1 (0 ∷ 7 ∷ 7 ∷ 7 ∷ 7 ∷ 7 ∷ 7 ∷ [])) 12
+    ∷ refused (streams true 7 (1 ∷ 2 ∷ 6 ∷ 7 ∷ 8 ∷ 9 ∷ 1 ∷ [])) 12
+    ∷ sends (streams true 1 sevens) "0012SM034D7u"
+    -- after RANGE
+    ∷ refused (streams true 2 (7 ∷ 3 ∷ 0 ∷ 0 ∷ 0 ∷ 0 ∷ 0 ∷ [])) 11
+    ∷ refused (streams true 3 (7 ∷ 7 ∷ 3 ∷ 0 ∷ 0 ∷ 0 ∷ 0 ∷ [])) 11
+    -- a count past the array
+    ∷ refused (streams true 200 (1 ∷ 2 ∷ 6 ∷ 7 ∷ 8 ∷ 9 ∷ 0 ∷ [])) 12
+    ∷ refused (streams true 200 (1 ∷ 2 ∷ 6 ∷ 7 ∷ 8 ∷ 9 ∷ 5 ∷ [])) 11
     ∷ sends (streams true 2 (7 ∷ 8 ∷ 0 ∷ 0 ∷ 0 ∷ 0 ∷ 0 ∷ [])) "0012SM064D7DT2B"
-    ∷ sends (streams true 7 sevens) "0012SM154D7D7D7D7D7D7D7Z"
+    ∷ sends (streams true 6 (1 ∷ 2 ∷ 6 ∷ 7 ∷ 8 ∷ 9 ∷ 0 ∷ [])) "0012SM154D1D2D6D7DT2DT6u"
     -- V1: no lock on this side
     ∷ refused (asksV1 (SetFactor 900)) 11
     ∷ refused (asksV1 (SetFactor 1000000)) 10

@@ -1,7 +1,7 @@
 -- What is proved here, each statement as a type; proofs/ has the proofs.
 use mathlib.Core.Path.{_≡_}
-use mathlib.Core.List.{List}
-use mathlib.Core.Bool.{Bool, true}
+use mathlib.Core.List.{List, _∷_}
+use mathlib.Core.Bool.{true}
 use Prim.Native.Nat.{ℕ, _≤_}
 use Rattle.frame_writer.specs.Written.{frameV1, frameV2}
 use Rattle.requests.specs.declared.RequestV2.{RequestV2}
@@ -11,15 +11,15 @@ use Rattle.request_writer.specs.Written.{writerRoom, requestWrittenV2, requestW
 use Rattle.request_reader.specs.Decoded.{requestList, Decodes}
 use Rattle.request_reader.specs.declared.Request.the-variants.{V1, V2}
 use Rattle.request_reader.specs.declared.Decoded.{Decoded}
-use Rattle.sources.specs.Source.{listOf, Counted}
-use Rattle.sources.specs.declared.Sources.{Sources}
-use Rattle.request_writer.specs.Typed.{typedStream}
 use Rattle.buffer.specs.Byte.{every}
+use Rattle.sources.specs.Source.{knownSources, among, listText}
+use Rattle.settings.specs.declared.Key.the-variants.{SM}
+use Rattle.forms.specs.Judged.{verdictOf}
+use Rattle.request_writer.specs.Typed.{typedStream}
 use Rattle.settings.specs.declared.Transition.the-variants.{Direct, Between}
 use Rattle.settings.specs.declared.Setting.the-variants.{Switch}
 use Rattle.requests.specs.declared.RequestV2.the-variants.{Set}
 use Rattle.written_facts.specs.Again.{Typed, written, ReadAs}
-use Rattle.written_facts.specs.Judged.{listVerdict}
 use Rattle.written_facts.specs.Examples.{right, cases, number}
 use Rattle.written_facts.specs.Same.{SameV2}
 
@@ -39,13 +39,9 @@ OtherForm = SameV2 (Set (Switch (Direct (number 5 14)))) (Set (Switch (Between (
 abbrev pub ByValue : Type 0
 ByValue = SameV2 (Set (Switch (Direct (number 5 14)))) (Set (Switch (Direct (number 500000 9))))
 
--- where a list's count is that of its sources, the writer judges the list
-abbrev pub CountedJudged : Type 0
-CountedJudged = (on : Bool) (q : Sources) → Counted q → typedStream on q ≡ listVerdict on (listOf q)
-
--- so it does with what the request reader hands out, whatever the bytes
-abbrev pub DecodedJudged : Type 0
-DecodedJudged = (on : Bool) (s : List ℕ) (r : Decoded) → Decodes s r → typedStream on (r .sources) ≡ listVerdict on (requestList s)
+-- the writer judges a list of known sources, of any length and with any repeats, as the gauge and the readers judge its text
+abbrev pub JudgedAlike : Type 0
+JudgedAlike = (list : List ℕ) → every (among knownSources) list ≡ true → typedStream true list ≡ verdictOf SM (52 ∷ listText list)
 
 -- a request that was read is a good request: the writer accepts it, whatever the bytes were, and writes the one frame that they fix
 abbrev pub AcceptedV2 : Type 0

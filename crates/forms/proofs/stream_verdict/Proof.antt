@@ -20,5 +20,6 @@ stream-verdict-spec =
     (λ c κs. search needs)
     (λ c. rw (← (c .before .before .before .before .before .before .count-digits .ensures), ne-eqb _ 0 (c .before .before .before .before .before .if1 .left), ne-eqb _ 10 (c .before .before .before .before .if2 .left), sym (c .before .before .before .has-idle-list .ensures) ∙ c .before .before .if3 .left, sym (c .before .has-mode .ensures) ∙ not-true _ (c .if4 .taken)))
     (λ c. rw (← (c .before .before .before .before .before .before .before .count-digits .ensures), ne-eqb _ 0 (c .before .before .before .before .before .before .if1 .left), ne-eqb _ 10 (c .before .before .before .before .before .if2 .left), sym (c .before .before .before .before .has-idle-list .ensures) ∙ c .before .before .before .if3 .left, sym (c .before .before .has-mode .ensures) ∙ not-false _ (c .before .if4 .left), eq-eqb _ 11 (c .if5 .taken)))
+    (λ c. rw (← (c .before .before .before .before .before .before .before .before .count-digits .ensures), ne-eqb _ 0 (c .before .before .before .before .before .before .before .if1 .left), ne-eqb _ 10 (c .before .before .before .before .before .before .if2 .left), sym (c .before .before .before .before .before .has-idle-list .ensures) ∙ c .before .before .before .before .if3 .left, sym (c .before .before .before .has-mode .ensures) ∙ not-false _ (c .before .before .if4 .left), ne-eqb _ 11 (c .before .if5 .left), eq-eqb _ 12 (c .if6 .taken)))
     (λ c κs. search needs)
-    (λ c. rw (← (c .before .before .before .before .before .before .before .before .count-digits .ensures), ne-eqb _ 0 (c .before .before .before .before .before .before .before .if1 .left), ne-eqb _ 10 (c .before .before .before .before .before .before .if2 .left), sym (c .before .before .before .before .before .has-idle-list .ensures) ∙ c .before .before .before .before .if3 .left, sym (c .before .before .before .has-mode .ensures) ∙ not-false _ (c .before .before .if4 .left), ne-eqb _ 11 (c .before .if5 .left), c .starts-with .ensures)))
+    (λ c. rw (← (c .before .before .before .before .before .before .before .before .before .count-digits .ensures), ne-eqb _ 0 (c .before .before .before .before .before .before .before .before .if1 .left), ne-eqb _ 10 (c .before .before .before .before .before .before .before .if2 .left), sym (c .before .before .before .before .before .before .has-idle-list .ensures) ∙ c .before .before .before .before .before .if3 .left, sym (c .before .before .before .before .has-mode .ensures) ∙ not-false _ (c .before .before .before .if4 .left), ne-eqb _ 11 (c .before .before .if5 .left), ne-eqb _ 12 (c .before .if6 .left), c .starts-with .ensures)))

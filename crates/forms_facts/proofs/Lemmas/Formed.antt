@@ -43,14 +43,14 @@ use Rattle.forms.specs.declared.Limited.the-variants.{Fine}
 use Rattle.forms.specs.declared.Verdict.{Verdict}
 use Rattle.forms.specs.declared.Verdict.the-variants.{Set}
 use Rattle.settings.proofs.Laws.{factor-is}
-use Rattle.forms_facts.specs.Codes.{Short}
+use Rattle.forms_facts.specs.Codes.{GoodList}
 use Rattle.forms_facts.proofs.Digit.{digit-exactly}
 use Rattle.forms_facts.specs.Sound.{InLimits, Sound}
 use Rattle.forms_facts.proofs.Again.{sent-as-accepted}
 use Rattle.forms_facts.proofs.Lemmas.Lacks.{split, until-lacks, until-split}
-use Rattle.forms_facts.proofs.Lemmas.Lists.{entries-short}
+use Rattle.forms_facts.proofs.Lemmas.Lists.{entries-good}
 use Rattle.forms_facts.proofs.Lemmas.Numbers.{read-lacks}
-use Rattle.forms_facts.proofs.Lemmas.Texts.{none-number, list-number}
+use Rattle.forms_facts.proofs.Lemmas.Texts.{good-number, none-number}
 use Rattle.forms_facts.specs.Form.{Form}
 
 -- ---- what is accepted is of the form
@@ -185,7 +185,8 @@ streams s n =
     (λ _. each Streams (eqb n 10) (Verdict.Refused 10) _ (λ _. tt)
     (λ _. each Streams (idleList s) (Verdict.Refused 10) _ (λ _. tt)
     (λ _. each Streams (not (knownMode s)) (Verdict.Refused 11) _ (λ _. tt)
-    (λ _. each Streams (eqb n 11) (Verdict.Refused 11) (Set (Stream (startsWith 52 s))) (λ _. tt) (λ _. (startsWith 52 s, refl))))))
+    (λ _. each Streams (eqb n 11) (Verdict.Refused 11) _ (λ _. tt)
+    (λ _. each Streams (eqb n 12) (Verdict.Refused 12) (Set (Stream (startsWith 52 s))) (λ _. tt) (λ _. (startsWith 52 s, refl)))))))
 
 stream-formed : (s : List ℕ) → Formed SM s (streamData s)
 unfolding streamData
@@ -194,7 +195,7 @@ stream-formed s = go (streamData s) refl (streams s (entriesNumber (drop 1 s)))
     go : (v : Verdict) → streamData s ≡ v → Streams v → Formed SM s v
     go (Set x) e h =
         let f : streamData s ≡ Set (Stream (h .0)) = e ∙ rw (h .1) in
-        rw (h .1) (refl, (entriesList (drop 1 s), entries-short (drop 1 s), sym (sent-as-accepted s (h .0) f)))
+        rw (h .1) (refl, (entriesList (drop 1 s), entries-good (drop 1 s), sym (sent-as-accepted s (h .0) f)))
     go (Verdict.Refused k) e h = tt
 
 pub formed : (key : Key) (s : List ℕ) → Formed key s (verdictOf key s)
@@ -257,9 +258,9 @@ between-set t u a b e f h k l =
       l,
     )
 
-stream-set : (on : Bool) (list : List ℕ) → Short list → streamData (streamText on list) ≡ Set (Stream on)
+stream-set : (on : Bool) (list : List ℕ) → GoodList list → streamData (streamText on list) ≡ Set (Stream on)
 unfolding streamData streamOf streamText leading startsWith idleList knownMode pick within
-stream-set true list h = rw (ne-eqb (leading (listText list) + 1) 0 (λ (e : leading (listText list) + 1 ≡ 0). omega arith), list-number list h)
+stream-set true list h = rw (ne-eqb (leading (listText list) + 1) 0 (λ (e : leading (listText list) + 1 ≡ 0). omega arith), good-number list h)
 stream-set false list h = rw none-number
 
 pub is-set : (s : List ℕ) (x : Setting) → Form s x → Sound x → verdictOf (keyOf x) s ≡ Set x

@@ -127,7 +127,8 @@ stream-good s n =
     (λ _. each Good (eqb n 10) (Verdict.Refused 10) _ (λ _. tt)
     (λ _. each Good (idleList s) (Verdict.Refused 10) _ (λ _. tt)
     (λ _. each Good (not (knownMode s)) (Verdict.Refused 11) _ (λ _. tt)
-    (λ _. each Good (eqb n 11) (Verdict.Refused 11) (Set (Stream (startsWith 52 s))) (λ _. tt) (λ _. tt)))))
+    (λ _. each Good (eqb n 11) (Verdict.Refused 11) _ (λ _. tt)
+    (λ _. each Good (eqb n 12) (Verdict.Refused 12) (Set (Stream (startsWith 52 s))) (λ _. tt) (λ _. tt))))))
 
 pub good : (key : Key) (s : List ℕ) → Good (verdictOf key s)
 unfolding verdictOf streamData

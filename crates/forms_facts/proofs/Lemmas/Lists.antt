@@ -1,46 +1,22 @@
 -- Lists of sources and their texts.
-use mathlib.Core.Path.{_≡_, refl, _∙_}
-use mathlib.Core.Bool.{Bool, true, false, cond, not, _&&_, or-true}
+use mathlib.Core.Path.{_≡_, refl, sym, ap, _∙_}
+use mathlib.Core.Bool.{Bool, true, false, cond, not, _&&_}
 use mathlib.Core.List.{List, [], _∷_, _++_, map}
-use Prim.Native.Nat.{ℕ, _≤_}
+use Prim.Native.Nat.{ℕ}
 use native.Mathlib.Omega.{arith}
-use borrow.Author.Tests.{eqb-true, eq-eqb, ltb-false, not-false}
-use lib.Dec.{eqb, ltb, eqb·suc-zero}
-use lib.ListN.{length, length-map}
+use borrow.Author.Tests.{eqb-true, not-false}
+use lib.Dec.{eqb, eqb·suc-zero}
+use lib.ListN.{length}
 use Rattle.buffer.specs.First.{pick}
-use Rattle.buffer.specs.Byte.{every, sameText}
-use Rattle.buffer.proofs.Laws.{same-equal}
-use Rattle.buffer.proofs.Rules.{each}
-use Rattle.sources.specs.Source.{sourceText, isSource, findSource, sourceOf, knownSources, mostEntries, listText, among}
+use Rattle.buffer.specs.Byte.{every}
+use Rattle.sources.specs.Source.{sourceOf, knownSources, listText, among, lone, listable}
+use Rattle.sources.proofs.Known.{Named, source-named, codes-known}
+use Rattle.sources.proofs.Weights.{at-most, repeat-exactly}
 use Rattle.sources.specs.Entries.{onto, parts, sourceTexts, entriesOf, isFormed, isKnown, codeOf, opens, entriesNumber, entriesList}
 use Rattle.sources.specs.declared.Source.{Source}
 use Rattle.sources.specs.declared.Source.the-variants.{Known, Unknown, Malformed}
-use Rattle.forms_facts.specs.Codes.{Short}
-
--- ---- the source of a text
-
--- a source that is known is one of the codes, and the text is its own
-abbrev pub Named : List ℕ → List ℕ → Source → Type 0
-Named codes t (Known c) = (among codes c ≡ true) × (t ≡ sourceText c)
-Named codes t Unknown = Unit {0}
-Named codes t Malformed = Unit {0}
-
-wider : (d : ℕ) (codes t : List ℕ) (r : Source) → Named codes t r → Named (d ∷ codes) t r
-unfolding among
-wider d codes t (Known c) h = (rw (h .0) (or-true (eqb c d)), h .1)
-wider d codes t Unknown h = tt
-wider d codes t Malformed h = tt
-
-find-named : (codes t : List ℕ) → Named codes t (findSource codes t)
-unfolding findSource among
-find-named [] t = tt
-find-named (d ∷ codes) t =
-    each (Named (d ∷ codes) t) (sameText t (sourceText d)) (Known d) (findSource codes t) (λ e. (rw (eq-eqb d d refl), same-equal t (sourceText d) e))
-    (λ _. wider d codes t (findSource codes t) (find-named codes t))
-
-source-named : (codes t : List ℕ) → Named codes t (sourceOf codes t)
-unfolding sourceOf
-source-named codes t = each (Named codes t) (not (isSource t)) Malformed (findSource codes t) (λ _. tt) (λ _. find-named codes t)
+use Rattle.forms_facts.specs.Codes.{GoodList}
+use Rattle.forms_facts.specs.Theorems.{AtMostSix}
 
 -- ---- the texts of sources that are all known
 
@@ -48,17 +24,6 @@ source-named codes t = each (Named codes t) (not (isSource t)) Malformed (findSo
 unfoldable pub joined : List (List ℕ) → List ℕ
 joined [] = []
 joined (t ∷ ts) = 68 ∷ (t ++ joined ts)
-
-pub codes-known : (ts : List (List ℕ)) → every isKnown (map (sourceOf knownSources) ts) ≡ true → every (among knownSources) (map codeOf (map (sourceOf knownSources) ts)) ≡ true
-unfolding every
-codes-known [] e = refl
-codes-known (t ∷ ts) e = go (sourceOf knownSources t) (source-named knownSources t) (codes-known ts) e
-  where
-    go : (r : Source) → Named knownSources t r → (every isKnown (map (sourceOf knownSources) ts) ≡ true → every (among knownSources) (map codeOf (map (sourceOf knownSources) ts)) ≡ true)
-        → (isKnown r && every isKnown (map (sourceOf knownSources) ts)) ≡ true → (among knownSources (codeOf r) && every (among knownSources) (map codeOf (map (sourceOf knownSources) ts))) ≡ true
-    go (Known c) h f k = rw (h .0) (f k)
-    go Unknown h f k = absurd (let z : _≡_ {A = ℕ} 0 1 = cc in omega arith)
-    go Malformed h f k = absurd (let z : _≡_ {A = ℕ} 0 1 = cc in omega arith)
 
 pub texts-known : (ts : List (List ℕ)) → every isKnown (map (sourceOf knownSources) ts) ≡ true → listText (map codeOf (map (sourceOf knownSources) ts)) ≡ joined ts
 unfolding every listText joined
@@ -94,49 +59,102 @@ joined-texts (x ∷ s) e = cc (joined-parts s, eqb-true x 68 (rw (eqb·suc-zero 
 
 -- ---- how a text of entries is judged
 
--- an accepted text of entries
-pub record Fits (s : List ℕ) : Type 0 where
-  pub number : entriesNumber s ≡ 0
+-- a text of entries whose sources are all known
+pub record Listed (s : List ℕ) : Type 0 where
+  pub number : entriesNumber s ≡ pick (not (lone (0 ∷ map codeOf (entriesOf s)))) 12 0
   pub opened : opens s ≡ true
   pub known : every isKnown (entriesOf s) ≡ true
-  pub few : length (entriesOf s) ≤ mostEntries
 
--- what is neither SYNTAX nor RANGE is accepted
-pub fits : (s : List ℕ) → eqb (entriesNumber s) 10 ≡ false → eqb (entriesNumber s) 11 ≡ false → Fits s
+-- what is neither SYNTAX nor RANGE is such a text
+pub listed : (s : List ℕ) → eqb (entriesNumber s) 10 ≡ false → eqb (entriesNumber s) 11 ≡ false → Listed s
 unfolding entriesNumber pick
-fits s e f = go (not (opens s)) (not (every isFormed (entriesOf s))) (not (every isKnown (entriesOf s))) (ltb mostEntries (length (entriesOf s))) refl refl refl refl e f
+listed s e f = go (not (opens s)) (not (every isFormed (entriesOf s))) (not (every isKnown (entriesOf s))) refl refl refl e f
   where
-    rows : (a b c d : Bool) → ℕ
-    rows a b c d = pick a 10 (pick b 10 (pick c 11 (pick d 11 0)))
+    rest : ℕ
+    rest = pick (not (lone (0 ∷ map codeOf (entriesOf s)))) 12 0
 
-    go : (a b c d : Bool) → not (opens s) ≡ a → not (every isFormed (entriesOf s)) ≡ b → not (every isKnown (entriesOf s)) ≡ c → ltb mostEntries (length (entriesOf s)) ≡ d
-        → eqb (rows a b c d) 10 ≡ false → eqb (rows a b c d) 11 ≡ false → Fits s
-    go false false false false p q r t h k =
-        record { number = rw (p, q, r, t); opened = not-false _ p; known = not-false _ r; few = ltb-false mostEntries (length (entriesOf s)) t }
-    go true b c d p q r t h k = absurd (let z : _≡_ {A = ℕ} 0 1 = cc in omega arith)
-    go false true c d p q r t h k = absurd (let z : _≡_ {A = ℕ} 0 1 = cc in omega arith)
-    go false false true d p q r t h k = absurd (let z : _≡_ {A = ℕ} 0 1 = cc in omega arith)
-    go false false false true p q r t h k = absurd (let z : _≡_ {A = ℕ} 0 1 = cc in omega arith)
+    rows : (a b c : Bool) → ℕ
+    rows a b c = pick a 10 (pick b 10 (pick c 11 rest))
 
-pub none-short : Short []
-unfolding every
-none-short = record { few = omega arith; known = refl }
+    go : (a b c : Bool) → not (opens s) ≡ a → not (every isFormed (entriesOf s)) ≡ b → not (every isKnown (entriesOf s)) ≡ c → eqb (rows a b c) 10 ≡ false → eqb (rows a b c) 11 ≡ false
+        → Listed s
+    go false false false p q r h k = record { number = rw (p, q, r); opened = not-false _ p; known = not-false _ r }
+    go true b c p q r h k = absurd (let z : _≡_ {A = ℕ} 0 1 = cc in omega arith)
+    go false true c p q r h k = absurd (let z : _≡_ {A = ℕ} 0 1 = cc in omega arith)
+    go false false true p q r h k = absurd (let z : _≡_ {A = ℕ} 0 1 = cc in omega arith)
 
-pub fits-short : (s : List ℕ) → Fits s → Short (map codeOf (entriesOf s))
+-- such a text is the text of its list, whose sources are known
+pub listed-known : (s : List ℕ) → Listed s → every (among knownSources) (map codeOf (entriesOf s)) ≡ true
 unfolding entriesOf
-fits-short s f = record { few = rw length-map (f .few); known = codes-known (sourceTexts s) (f .known) }
+listed-known s f = codes-known (sourceTexts s) (f .known)
 
-pub entries-short : (s : List ℕ) → Short (entriesList s)
-unfolding entriesList
-entries-short s = go (eqb (entriesNumber s) 0) refl
+pub listed-text : (s : List ℕ) → Listed s → listText (map codeOf (entriesOf s)) ≡ s
+unfolding entriesOf
+listed-text s f = texts-known (sourceTexts s) (f .known) ∙ joined-texts s (f .opened)
+
+-- none stands twice exactly if it is not refused
+pub lone-number : (b : Bool) (n : ℕ) → n ≡ pick (not b) 12 0 → b ≡ not (eqb n 12)
+unfolding pick
+lone-number true n e = rw e
+lone-number false n e = rw e
+
+pub lone-zero : (b : Bool) (n : ℕ) → n ≡ pick (not b) 12 0 → eqb n 12 ≡ false → n ≡ 0
+unfolding pick
+lone-zero true n e h = e
+lone-zero false n e h = absurd (let z : _≡_ {A = Bool} true false = rw e at h in let y : _≡_ {A = ℕ} 0 1 = cc in omega arith)
+
+-- ---- lists that SM can have
+
+pub none-good : GoodList []
+unfolding every
+none-good = record { known = refl; once = λ r. omega (arith, r .apart, r .inside) }
+
+-- known, and with the `0` before it none twice
+pub lone-good : (list : List ℕ) → every (among knownSources) list ≡ true → lone (0 ∷ list) ≡ true → GoodList list
+lone-good list k l = record { known = k; once = λ r. let z : _≡_ {A = Bool} true false = sym l ∙ repeat-exactly (0 ∷ list) .1 r in let y : _≡_ {A = ℕ} 0 1 = cc in absurd (omega arith) }
+
+pub good-lone : (list : List ℕ) → GoodList list → lone (0 ∷ list) ≡ true
+good-lone list f = go (lone (0 ∷ list)) refl
   where
-    go : (b : Bool) → eqb (entriesNumber s) 0 ≡ b → Short (cond b (map codeOf (entriesOf s)) [])
+    go : (b : Bool) → lone (0 ∷ list) ≡ b → b ≡ true
+    go true e = refl
+    go false e = absurd (f .once (repeat-exactly (0 ∷ list) .0 e))
+
+pub good-listable : (list : List ℕ) → GoodList list → listable knownSources list ≡ true
+unfolding listable
+good-listable list f = rw (f .known, good-lone list f)
+
+pub at-most-six : AtMostSix
+unfolding among
+at-most-six list f = at-most knownSources list refl (good-listable list f)
+
+-- what is accepted: such a text, and none stands twice
+pub record Fits (s : List ℕ) : Type 0 where
+  pub number : entriesNumber s ≡ 0
+  pub listed : Listed s
+  pub good : GoodList (map codeOf (entriesOf s))
+
+pub fits : (s : List ℕ) → eqb (entriesNumber s) 10 ≡ false → eqb (entriesNumber s) 11 ≡ false → eqb (entriesNumber s) 12 ≡ false → Fits s
+fits s e f h =
+    let w = listed s e f in
+    let codes = map codeOf (entriesOf s) in
+    record {
+      number = lone-zero (lone (0 ∷ codes)) (entriesNumber s) (w .number) h;
+      listed = w;
+      good = lone-good codes (listed-known s w) (lone-number (lone (0 ∷ codes)) (entriesNumber s) (w .number) ∙ ap not h);
+    }
+
+pub entries-good : (s : List ℕ) → GoodList (entriesList s)
+unfolding entriesList
+entries-good s = go (eqb (entriesNumber s) 0) refl
+  where
+    go : (b : Bool) → eqb (entriesNumber s) 0 ≡ b → GoodList (cond b (map codeOf (entriesOf s)) [])
     go true e =
         let z : entriesNumber s ≡ 0 = eqb-true (entriesNumber s) 0 e in
-        fits-short s (fits s (rw z) (rw z))
-    go false e = none-short
+        fits s (rw z) (rw z) (rw z) .good
+    go false e = none-good
 
 -- an accepted text is the text of its list
 pub entries-again : (s : List ℕ) → Fits s → listText (entriesList s) ≡ s
-unfolding entriesList entriesOf
-entries-again s f = rw (f .number) (texts-known (sourceTexts s) (f .known) ∙ joined-texts s (f .opened))
+unfolding entriesList
+entries-again s f = rw (f .number) (listed-text s (f .listed))

@@ -4,17 +4,18 @@ use mathlib.Core.Bool.{Bool, true, false, not, _||_, or-true}
 use mathlib.Core.List.{List, [], _∷_, _++_, map}
 use Prim.Native.Nat.{ℕ, _≤_}
 use native.Mathlib.Omega.{arith}
-use borrow.Author.Tests.{eqb-true, ne-eqb, le-ltb, not-true}
+use borrow.Author.Tests.{eqb-true, ne-eqb, not-true}
 use lib.Dec.{eqb}
-use lib.ListN.{length, length-map}
+use lib.ListN.{length}
 use Rattle.buffer.specs.First.{pick}
 use Rattle.buffer.specs.Byte.{within, every, sameText, digit}
 use Rattle.buffer.proofs.Rules.{each}
-use Rattle.sources.specs.Source.{sourceText, isSource, findSource, sourceOf, knownSources, mostEntries, listText, among}
+use Rattle.sources.specs.Source.{sourceText, isSource, findSource, sourceOf, knownSources, listText, among, lone}
 use Rattle.sources.specs.Entries.{onto, parts, sourceTexts, entriesOf, isFormed, isKnown, codeOf, opens, entriesNumber, entriesList}
 use Rattle.sources.specs.declared.Source.the-variants.{Known}
-use Rattle.forms_facts.specs.Codes.{Short}
+use Rattle.forms_facts.specs.Codes.{GoodList}
 use Rattle.forms_facts.proofs.Lemmas.Lacks.{lacks, split}
+use Rattle.forms_facts.proofs.Lemmas.Lists.{good-lone}
 
 digit-no : (n b : ℕ) → 58 ≤ b → eqb (digit n) b ≡ false
 digit-no n b h = ne-eqb (digit n) b (λ (e : digit n ≡ b). omega arith)
@@ -92,15 +93,19 @@ all-codes (c ∷ cs) = rw (all-codes cs)
 
 -- no entries at all are accepted
 pub none-number : entriesNumber [] ≡ 0
-unfolding entriesNumber opens entriesOf sourceTexts every pick
+unfolding entriesNumber opens entriesOf sourceTexts every lone among pick
 none-number = refl
 
--- a list's text is accepted, and lists the same
-pub list-number : (cs : List ℕ) → Short cs → entriesNumber (listText cs) ≡ 0
+-- a list's text is refused with 12 or accepted
+pub list-number : (cs : List ℕ) → every (among knownSources) cs ≡ true → entriesNumber (listText cs) ≡ pick (not (lone (0 ∷ cs))) 12 0
 unfolding entriesNumber pick
-list-number cs h =
-    rw (entries-of cs (h .known), opens-list cs, all-formed cs, all-known cs, length-map cs Known, le-ltb mostEntries (length cs) (h .few))
+list-number cs k = rw (entries-of cs k, opens-list cs, all-formed cs, all-known cs, all-codes cs)
 
-pub list-again : (cs : List ℕ) → Short cs → entriesList (listText cs) ≡ cs
+-- a good one is accepted, and lists the same
+pub good-number : (cs : List ℕ) → GoodList cs → entriesNumber (listText cs) ≡ 0
+unfolding pick
+good-number cs h = list-number cs (h .known) ∙ rw (good-lone cs h)
+
+pub list-again : (cs : List ℕ) → GoodList cs → entriesList (listText cs) ≡ cs
 unfolding entriesList
-list-again cs h = rw (list-number cs h, entries-of cs (h .known)) (all-codes cs)
+list-again cs h = rw (good-number cs h, entries-of cs (h .known)) (all-codes cs)

@@ -21,7 +21,8 @@ use Rattle.settings.specs.declared.Transition.the-variants.{Direct, Between}
 use Rattle.settings.specs.declared.Key.the-variants.{DA, DU, C1, CM, CC, FC, ST, SM}
 use Rattle.settings.specs.declared.Setting.{Setting}
 use Rattle.settings.specs.declared.Setting.the-variants.{Address, PressureIn, Factor, Control, Cathode, Filament, Switch, Stream}
-use Rattle.forms_facts.specs.Codes.{Short}
+use Rattle.forms_facts.proofs.Lemmas.Lists.{at-most-six}
+use Rattle.forms_facts.specs.Codes.{GoodList}
 use Rattle.forms_facts.specs.Sound.{Sound}
 use Rattle.forms_facts.specs.Form.{FormWith}
 use Rattle.forms_facts.proofs.Lemmas.Lacks.{split}
@@ -113,11 +114,11 @@ unit-fits HPa = record { printed = read-printed DU (putOf factory (PressureIn HP
 digit-fits : (v : ℕ) → v ≤ 9 → Fits 1 ((v + 48) ∷ [])
 digit-fits v h = fits-next 0 (v + 48) [] (omega arith) (omega arith) fits-none
 
-list-fits : (list : List ℕ) → Short list → Fits 24 (52 ∷ listText list)
+list-fits : (list : List ℕ) → GoodList list → Fits 24 (52 ∷ listText list)
 unfolding readText putOf streamText
-list-fits list h = record { printed = read-printed SM (putOf factory (Stream true) list); few = read-le (putOf factory (Stream true) list) (h .few) SM }
+list-fits list h = record { printed = read-printed SM (putOf factory (Stream true) list); few = read-le (putOf factory (Stream true) list) (omega (arith, at-most-six list h)) SM }
 
-setting-fits : (x : Setting) (list d : List ℕ) → FormWith d x list → Sound x → Short list → Fits 99 d
+setting-fits : (x : Setting) (list d : List ℕ) → FormWith d x list → Sound x → GoodList list → Fits 99 d
 setting-fits (Address v) list d f h k = rw (f .0) (record { printed = digits3-printed v; few = omega arith })
 setting-fits (PressureIn u) list d f h k = rw (f .0) (more 4 99 _ (omega arith) (unit-fits u))
 setting-fits (Factor c) list d f h k = more 12 99 d (omega arith) (number-fits d (f .0 .0) (f .0 .1))

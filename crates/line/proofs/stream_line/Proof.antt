@@ -1,43 +1,39 @@
 -- `line::stream_line` meets its contract.
 use mathlib.Core.Path.{_≡_, ap, _∙_}
 use mathlib.Core.Bool.{true, false, not}
-use Prim.Native.Nat.{_<_, _≤_}
+use mathlib.Core.List.{List}
+use Prim.Native.Nat.{ℕ, _<_, _≤_}
 use native.Mathlib.Omega.{arith}
 use borrow.Author.Needs.{needs}
 use lib.ListN.{length}
 use Rattle.buffer.proofs.Laws.{refuses, sends}
 use Rattle.frames.specs.Checksum.{closed}
 use Rattle.sources.specs.Source.{listOf}
-use Rattle.sources.proofs.Laws.{list-few}
-use Rattle.line.specs.Line.{valuesOf, joined}
-use Rattle.line.specs.Rows.{lineOf}
-use Rattle.line.proofs.Laws.{line-is, line-le, no-room, no-line, a-line}
+use Rattle.settings.specs.Limits.{standard}
+use Rattle.line.specs.Line.{valuesOf, shownList, joined}
+use Rattle.line.specs.Rows.{rowsOf, lineOf}
+use Rattle.line.proofs.Laws.{line-is, line-le, shown-few, no-room, no-line, a-line}
 use Rattle.line.proofs.stream_line.Statement.{statement}
 use Rattle.line.proofs.stream_line.Tie as tie
-
--- the list has at most seven entries
-few : (c : tie.Start) → length (listOf (c .args .s .sources)) ≤ 7
-few c =
-    let h : length (c .args .s .sources .codes) ≡ 7 = search needs in
-    list-few (c .args .s .sources) h
 
 -- the line of the rows is the line of the values
 the-line : (c : tie.After-rows-of)
     → let a = c .before .before .before .before .before .args in
-    lineOf (c .rows-of .result) ≡ closed (joined (valuesOf (listOf (a .s .sources)) (a .r)))
+    lineOf (c .rows-of .result) ≡ closed (joined (valuesOf (shownList (standard .sourceCodes) (listOf (a .s .sources))) (a .r)))
 the-line c =
-    let s = c .before .before .before .before .before in
-    ap lineOf (c .rows-of .ensures) ∙ line-is (listOf (s .args .s .sources)) (s .args .r) (few s)
+    let a = c .before .before .before .before .before .args in
+    let shown = shownList (standard .sourceCodes) (listOf (a .s .sources)) in
+    ap lineOf (c .rows-of .ensures) ∙ ap (λ (list : List ℕ). lineOf (rowsOf (valuesOf list (a .r)))) (c .before .shown-list .ensures) ∙ line-is shown (a .r) (omega (arith, shown-few (listOf (a .s .sources))))
 
 returns : tie.Need-returns
 returns c =
-    let little : length (c .before .before .args .out .now) < 96 = c .if1 .taken in
+    let little : length (c .before .before .args .out .now) < 71 = c .if1 .taken in
     refuses _ 1 (no-room _ _ _ little)
 
 returns-2 : tie.Need-returns-2
 returns-2 c =
     let s = c .before .before .before in
-    let room : 96 ≤ length (s .args .out .now) = c .before .if1 .left in
+    let room : 71 ≤ length (s .args .out .now) = c .before .if1 .left in
     let none : not (s .args .s .streaming) ≡ true = c .if2 .taken in
     refuses _ 0 (no-line _ _ _ room none)
 
@@ -46,7 +42,7 @@ returns-3 c =
     let w = c .before .before in
     let rows = w .before .before in
     let s = rows .before .before .before .before .before in
-    let room : 96 ≤ length (s .args .out .now) = rows .before .before .before .if1 .left in
+    let room : 71 ≤ length (s .args .out .now) = rows .before .before .before .if1 .left in
     let some : not (s .args .s .streaming) ≡ false = rows .before .before .if2 .left in
     sends
     0
@@ -54,7 +50,7 @@ returns-3 c =
     (a-line _ _ _ room some)
     (rw (the-line rows) at (w .write-line .ensures .0))
     (rw (the-line rows) at (w .write-line .ensures .1))
-    (omega (arith, room, line-le (listOf (s .args .s .sources)) (s .args .r) (few s)))
+    (omega (arith, room, line-le (listOf (s .args .s .sources)) (s .args .r)))
 
 pub stream-line-spec : {M : Type 1} → statement M
 stream-line-spec =
@@ -63,6 +59,7 @@ stream-line-spec =
     returns
     returns-2
     (λ c κs. search needs)
-    (λ c κs. let rows = c .before in let s = rows .before .before .before .before .before in rw (the-line rows) (omega (arith, line-le (listOf (s .args .s .sources)) (s .args .r) (few s))))
+    (λ c κs. search needs)
+    (λ c κs. let rows = c .before in let s = rows .before .before .before .before .before in rw (the-line rows) (omega (arith, line-le (listOf (s .args .s .sources)) (s .args .r))))
     (λ c. search needs)
     returns-3)

@@ -23,7 +23,8 @@ use Rattle.readings_facts.specs.Sound.{SoundReadings}
 use Rattle.readings.specs.Place.{Place, Source0, Source1, Source2, Source6, Source7, SourceT2, SourceT6, codeOf, readingAt}
 use Rattle.readings.specs.There.{shownAs}
 use Rattle.readings.proofs.There.{shown-there}
-use Rattle.forms_facts.specs.Codes.{Short}
+use Rattle.forms_facts.specs.Codes.{GoodList}
+use Rattle.forms_facts.proofs.Lemmas.Lists.{at-most-six}
 use Rattle.forms_facts.proofs.Lemmas.Lacks.{split}
 use Rattle.forms_facts.proofs.Lemmas.Texts.{of-each}
 use Rattle.line.specs.Line.{tailOf, joined, lineAnswer}
@@ -57,7 +58,7 @@ places-of (c ∷ list) e =
     let ps = places-of list (w .1) in
     (p .0 ∷ ps .0, rw (p .1, ps .1))
 
-pub listed-places : (list : List ℕ) → Short list → (places : List Place) × Listed list places
+pub listed-places : (list : List ℕ) → GoodList list → (places : List Place) × Listed list places
 unfolding every among
 listed-places list k = places-of (0 ∷ list) (k .known)
 
@@ -72,12 +73,12 @@ shows r (c ∷ list) (p ∷ places) e =
     let b : map codeOf places ≡ map some list = cc in
     rw (shown-there p c r a, shows r list places b)
 
--- while lines are sent and 96 bytes are lent, the line is of what stands there, each value whole
-pub line-shown : (r : Readings) → SoundReadings r → (h : Held) (room : ℕ) (places : List Place) → Listed (h .list) places → h .streaming ≡ true → 96 ≤ room
+-- while lines are sent and 71 bytes are lent, the line is of what stands there, each value whole
+pub line-shown : (r : Readings) → SoundReadings r → (h : Held) → GoodList (h .list) → (room : ℕ) (places : List Place) → Listed (h .list) places → h .streaming ≡ true → 71 ≤ room
     → lineAnswer room h r ≡ record { number = 0; reply = shownLine r places }
-line-shown r f h room places l s k =
+line-shown r f h g room places l s k =
     a-line room h r k (ap not s)
-    ∙ ap (λ (ts : List (List ℕ)). record { number = 0; reply = closed (joined ts) }) (line-whole (h .list) r f ∙ shows r (0 ∷ h .list) places l)
+    ∙ ap (λ (ts : List (List ℕ)). record { number = 0; reply = closed (joined ts) }) (line-whole (h .list) r g f ∙ shows r (0 ∷ h .list) places l)
 
 -- ---- the values counted
 
@@ -128,12 +129,12 @@ module _ (r : Readings) where
   line-count c list = values-closed _ ∙ rw (count-append 59 (valueText c r), no-mark c, tail-count list) (omega arith)
 
 -- the line of a sound state has at most eight values
-pub line-few : (room : ℕ) (h : Held) (r : Readings) → Short (h .list) → SoundReadings r → valuesIn (lineAnswer room h r .reply) ≤ 8
+pub line-few : (room : ℕ) (h : Held) (r : Readings) → GoodList (h .list) → SoundReadings r → valuesIn (lineAnswer room h r .reply) ≤ 7
 unfolding lineAnswer valuesIn
-line-few room h r k f = each Few _ _ _ (λ _. nothing) (λ _. each Few _ _ _ (λ _. nothing) (λ _. rw (line-whole (h .list) r f, line-count r 0 (h .list)) (omega (arith, k .few))))
+line-few room h r k f = each Few _ _ _ (λ _. nothing) (λ _. each Few _ _ _ (λ _. nothing) (λ _. rw (line-whole (h .list) r k f, line-count r 0 (h .list)) (omega (arith, at-most-six (h .list) k))))
   where
     Few : Answer → Type 0
-    Few a = valuesIn (a .reply) ≤ 8
+    Few a = valuesIn (a .reply) ≤ 7
 
-    nothing : valuesIn [] ≤ 8
+    nothing : valuesIn [] ≤ 7
     nothing = omega arith

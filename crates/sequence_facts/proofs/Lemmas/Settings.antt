@@ -24,12 +24,12 @@ use Rattle.settings.specs.declared.Key.the-variants.{DA, DU, C1, CM, CC, FC, ST
 use Rattle.settings.specs.declared.Setting.{Setting}
 use Rattle.settings.specs.declared.Setting.the-variants.{Address, PressureIn, Factor, Control, Cathode, Filament, Switch, Stream}
 use Rattle.forms.specs.Judged.{listIn}
-use Rattle.forms_facts.specs.Codes.{Short}
+use Rattle.forms_facts.specs.Codes.{GoodList}
 use Rattle.forms_facts.specs.Sound.{Sound}
 use Rattle.forms_facts.specs.Form.{Form}
 use Rattle.forms_facts.proofs.Exactly.{accepted-with-list}
 use Rattle.forms_facts.proofs.Lemmas.Lacks.{split, until-lacks}
-use Rattle.forms_facts.proofs.Lemmas.Lists.{none-short}
+use Rattle.forms_facts.proofs.Lemmas.Lists.{none-good}
 use Rattle.forms_facts.proofs.Lemmas.Numbers.{read-lacks}
 use Rattle.forms_facts.proofs.Lemmas.Texts.{of-each}
 use Rattle.history.specs.Latest.{orElse}
@@ -138,10 +138,10 @@ entries-said (c ∷ list) e =
     let r = reads c (w .0) (listText list) in
     rw (r .0, r .1, entries-said list (w .1))
 
-stream-said : (on : Bool) (list : List ℕ) → Short list → streamIn (streamText on list) ≡ some (Stream on, listIn SM (streamText on list))
+stream-said : (on : Bool) (list : List ℕ) → GoodList list → streamIn (streamText on list) ≡ some (Stream on, listIn SM (streamText on list))
 unfolding streamIn streamText entries pick
 stream-said true list h = rw (accepted-with-list SM (streamText true list) (Stream true) list .1 (refl, refl, tt, h) .1, entries-said list (h .known))
-stream-said false list h = rw (accepted-with-list SM (streamText false list) (Stream false) [] .1 (refl, (refl, refl), tt, none-short) .1)
+stream-said false list h = rw (accepted-with-list SM (streamText false list) (Stream false) [] .1 (refl, (refl, refl), tt, none-good) .1)
 
 -- what the data of a write say, where they are accepted as x
 abbrev Wrote : List ℕ → Setting → Key → Type 0

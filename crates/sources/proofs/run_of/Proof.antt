@@ -13,14 +13,14 @@ use Rattle.sources.proofs.run_of.Statement.{statement}
 use Rattle.sources.proofs.run_of.Tie as tie
 
 abbrev Inv-loop : tie.InvT-loop
-Inv-loop s run₀ i₀ run i = (i ≤ length s) × (run .count ≤ i) × Sofar s run (drop i s)
+Inv-loop s run₀ i₀ run i = (i ≤ length s) × Sofar s run (drop i s)
 
 abbrev μ-loop : tie.MeasureT-loop
 μ-loop s run₀ i₀ run i = length s - i
 
 loop-holds : tie.Need-loop-holds Inv-loop μ-loop
 unfolding listOf Counted
-loop-holds c = (omega arith, omega arith, record { formed = refl; known = refl; count = omega arith; sources = refl; few = refl; counted = refl })
+loop-holds c = (omega arith, record { formed = refl; known = refl; sources = refl; few = refl; counted = refl })
 
 -- the front of what follows a `D` ends within the text
 reach : (s : List ℕ) (i : ℕ) → i < length s → untilOf 68 (drop (i + 1) s) + (i + 1) ≤ length s
@@ -34,7 +34,7 @@ loop-again c =
     let n : c .before .before .before .until .result ≡ untilOf 68 (drop (l .i + 1) s) = c .before .before .before .until .ensures ∙ ap (untilOf 68) u in
     let h = reach s (l .i) (omega arith) in
     let e : c .before .source-of .result ≡ sourceOf knownSources (take (untilOf 68 (drop (l .i + 1) s)) (drop (l .i + 1) s)) = rw (← n, ← u) (c .before .source-of .ensures) in
-    (omega (arith, n, h), omega (arith, c .taken .ensures .count), next (c .before .source-of .result) (l .inv .2) (c .taken .ensures) (rw (e, n) (entries-step s (l .i) (omega arith))))
+    (omega (arith, n, h), next (c .before .source-of .result) (l .inv .1) (c .taken .ensures) (rw (e, n) (entries-step s (l .i) (omega arith))))
 
 pub run-of-spec : {M : Type 1} → statement M
 run-of-spec =
@@ -53,4 +53,4 @@ run-of-spec =
     (λ c. omega (arith, c .before .before .before .until .ensures ∙ ap (untilOf 68) (c .before .before .before .before .rest .ensures), reach (c .before .before .before .before .before .before .before .before .args .s .now) (c .before .before .before .before .before .before .loop .i) (omega arith)))
     (λ c. omega (arith, c .before .before .before .until .ensures ∙ ap (untilOf 68) (c .before .before .before .before .rest .ensures), reach (c .before .before .before .before .before .before .before .before .args .s .now) (c .before .before .before .before .before .before .loop .i) (omega arith)))
     loop-again
-    (λ c. ended (rw (drop-of-length-le (c .before .before .before .args .s .now) (c .loop-test .left)) at (c .before .loop .inv .2))))
+    (λ c. ended (rw (drop-of-length-le (c .before .before .before .args .s .now) (c .loop-test .left)) at (c .before .loop .inv .1))))

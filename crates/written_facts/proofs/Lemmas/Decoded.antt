@@ -17,7 +17,7 @@ use Rattle.decimal.specs.declared.Parsed.the-variants.{Value}
 use Rattle.decimal_facts.proofs.Value.{exact}
 use Rattle.frames.specs.Frame.{addressOf, wrongAddress}
 use Rattle.frames.specs.declared.HeadV2.{HeadV2}
-use Rattle.sources.specs.Source.{mostEntries, listOf, Counted}
+use Rattle.sources.specs.Source.{among, lone, listOf}
 use Rattle.sources.specs.Entries.{sourceTexts, entriesOf, opens, entriesNumber, entriesList}
 use Rattle.sources.specs.declared.Sources.{Sources}
 use Rattle.settings.specs.Limits.{standard}
@@ -48,9 +48,8 @@ use Rattle.requests.specs.declared.RequestV2.{RequestV2}
 use Rattle.requests.specs.declared.RequestV2.the-variants.{Read, Restore, Set}
 use Rattle.requests.specs.declared.AskV2.{AskV2}
 use Rattle.requests.specs.declared.AskV2.the-variants.{Asks, Refused}
-use Rattle.request_writer.specs.Typed.{exactly, limitedNumber, endsIn, typedDigit, judgedDigit, typedAddress, typedVerdict, formedV2}
-use Rattle.written_facts.specs.Judged.{streamVerdict, listVerdict}
-use Rattle.written_facts.proofs.Judged.{counted-judged}
+use Rattle.request_writer.specs.Typed.{exactly, limitedNumber, endsIn, typedDigit, judgedDigit, typedAddress, typedStream, typedVerdict, formedV2}
+use Rattle.forms_facts.proofs.Lemmas.Lists.{good-lone}
 use Rattle.written_facts.proofs.Lemmas.Typed.{ListFits}
 use Rattle.settings.proofs.Laws.{factor-is}
 
@@ -71,7 +70,7 @@ both false a b c d f g = g refl
 
 -- mode 0 has no list
 idle : (s : List ℕ) → verdictOf SM s ≡ verdict.Set (Stream false) → listIn SM s ≡ []
-unfolding verdictOf listIn ifSet streamText entriesList entriesNumber entriesOf sourceTexts opens every pick
+unfolding verdictOf listIn ifSet streamText entriesList entriesNumber entriesOf sourceTexts opens lone among every pick
 idle s e =
     let h : s ≡ 48 ∷ [] = sym (sent-as-accepted s false e) in
     rw e (rw h)
@@ -133,31 +132,31 @@ digit-as : (x : Setting) (most d : ℕ) → most < 10 → d ≤ most → judgedD
 unfolding judgedDigit typedDigit pick
 digit-as x most d h k = rw (lt-leb 10 d (omega arith), le-ltb most d k)
 
-stream-as : (on : Bool) (list : List ℕ) → ListFits (Stream on) list → listVerdict on list ≡ verdict.Set (Stream on)
-unfolding streamVerdict
+stream-as : (on : Bool) (list : List ℕ) → ListFits (Stream on) list → typedStream on list ≡ verdict.Set (Stream on)
+unfolding typedStream
 stream-as on list h =
-    sym (past _ _ _ _ (no-list on (h .1)) (past _ _ _ _ (ap not (h .0 .known)) (past _ _ _ _ (le-ltb mostEntries (length list) (h .0 .few)) refl)))
+    sym (past _ _ _ _ (no-list on (h .1)) (past _ _ _ _ (ap not (h .0 .known)) (past _ _ _ _ (ap not (good-lone list (h .0))) refl)))
   where
     no-list : (b : Bool) → (b ≡ false → list ≡ []) → (not b && not (eqb (length list) 0)) ≡ false
     no-list true f = refl
     no-list false f = rw (f refl)
 
-typed-as : (x : Setting) (q : Sources) → Counted q → Sound x → ListFits x (listOf q) → typedVerdict x q ≡ verdict.Set x
+typed-as : (x : Setting) (q : Sources) → Sound x → ListFits x (listOf q) → typedVerdict x q ≡ verdict.Set x
 unfolding typedVerdict typedAddress factorIn pick
-typed-as (Address v) q n h f = rw (within-in (standard .addressLow) (standard .addressHigh) v (h .0) (h .1))
-typed-as (PressureIn u) q n h f = refl
-typed-as (Factor v) q n h f = rw (factor-is v (h .0) (h .1))
-typed-as (Control d) q n h f = digit-as (Control d) (standard .controlHigh) d (omega arith) h
-typed-as (Cathode d) q n h f = digit-as (Cathode d) (standard .cathodeHigh) d (omega arith) h
-typed-as (Filament d) q n h f = digit-as (Filament d) (standard .filamentHigh) d (omega arith) h
-typed-as (Switch t) q n h f = switch-as t h
-typed-as (Stream on) q n h f = counted-judged on q n ∙ stream-as on (listOf q) f
+typed-as (Address v) q h f = rw (within-in (standard .addressLow) (standard .addressHigh) v (h .0) (h .1))
+typed-as (PressureIn u) q h f = refl
+typed-as (Factor v) q h f = rw (factor-is v (h .0) (h .1))
+typed-as (Control d) q h f = digit-as (Control d) (standard .controlHigh) d (omega arith) h
+typed-as (Cathode d) q h f = digit-as (Cathode d) (standard .cathodeHigh) d (omega arith) h
+typed-as (Filament d) q h f = digit-as (Filament d) (standard .filamentHigh) d (omega arith) h
+typed-as (Switch t) q h f = switch-as t h
+typed-as (Stream on) q h f = stream-as on (listOf q) f
 
-pub formed-as : (r : RequestV2) (q : Sources) → Counted q → Good (Asks r) (listOf q) → formedV2 r q ≡ Asks r
+pub formed-as : (r : RequestV2) (q : Sources) → Good (Asks r) (listOf q) → formedV2 r q ≡ Asks r
 unfolding formedV2 setOf pick
-formed-as (Read c) q n g = refl
-formed-as (Restore c) q n g = rw g
-formed-as (Set x) q n g = ap setOf (typed-as x q n (g .0) (g .1))
+formed-as (Read c) q g = refl
+formed-as (Restore c) q g = rw g
+formed-as (Set x) q g = ap setOf (typed-as x q (g .0) (g .1))
 
 -- ---- the address of a frame
 

@@ -1,14 +1,14 @@
 -- A typed write that is accepted: its setting lies within the limits and is the one that was asked for.
 use mathlib.Core.Path.{_≡_, refl, sym}
 use mathlib.Core.Bool.{Bool, true, false, cond, not, _&&_, true≢false}
-use mathlib.Core.List.{List, []}
+use mathlib.Core.List.{List, [], _∷_}
 use mathlib.Core.Logic.{_⊎_, inl, inr}
 use Prim.Native.Nat.{ℕ, _+_, _*_, _^_, _≤_}
 use native.Mathlib.Nat.{zero-mul}
 use native.Mathlib.Omega.{arith}
 use borrow.Author.Tests.{eq-eqb, eqb-true, eqb-false, ltb-false, not-false}
 use lib.Dec.{eqb, ltb, leb}
-use lib.ListN.{length, take, length-take}
+use lib.ListN.{length}
 use Rattle.buffer.proofs.Laws.{within-true}
 use Rattle.buffer.proofs.Rules.{each}
 use Rattle.decimal.specs.Exact.{units, normalOf}
@@ -19,7 +19,7 @@ use Rattle.decimal.specs.declared.Parsed.the-variants.{Value, Syntax, Range}
 use Rattle.decimal.specs.declared.Hundredths.the-variants.{Whole}
 use Rattle.decimal_facts.specs.Canonical.{Exactly}
 use Rattle.decimal_facts.proofs.Value.{exact}
-use Rattle.sources.specs.Source.{mostEntries, listOf}
+use Rattle.sources.specs.Source.{lone, listOf}
 use Rattle.sources.specs.declared.Sources.{Sources}
 use Rattle.settings.specs.Limits.{standard}
 use Rattle.settings.specs.declared.Transition.{Transition}
@@ -33,14 +33,15 @@ use Rattle.forms.specs.declared.Limited.{Limited}
 use Rattle.forms.specs.declared.Limited.the-variants.{Fine}
 use Rattle.forms.specs.declared.Verdict.{Verdict}
 use Rattle.forms.specs.declared.Verdict.the-variants.{Set}
-use Rattle.forms_facts.specs.Codes.{Short}
+use Rattle.forms_facts.specs.Codes.{GoodList}
 use Rattle.forms_facts.specs.Sound.{InLimits, Sound}
+use Rattle.forms_facts.proofs.Lemmas.Lists.{lone-good}
 use Rattle.request_writer.specs.Typed.{exactly, limitedNumber, endsIn, typedDigit, judgedDigit, typedAddress, typedStream, typedVerdict}
 use Rattle.written_facts.specs.Same.{SameNumber, SameSetting}
 
--- the list beside SM's mode: seven known sources at most, and none with mode 0
+-- the list beside SM's mode: a good one, and none with mode 0
 abbrev pub ListFits : Setting → List ℕ → Type 0
-ListFits (Stream on) list = Short list × (on ≡ false → list ≡ [])
+ListFits (Stream on) list = GoodList list × (on ≡ false → list ≡ [])
 ListFits (Address v) list = Unit {0}
 ListFits (PressureIn v) list = Unit {0}
 ListFits (Factor v) list = Unit {0}
@@ -145,27 +146,21 @@ module _ (list : List ℕ) where
       P : Digit → Type 0
       P r = Told x list (judgedDigit x r)
 
-list-le : (n : ℕ) (l : List ℕ) (k : ℕ) → n ≤ k → length (take n l) ≤ k
-list-le n l k h = simp length-take (omega arith)
+nothing : (list : List ℕ) → length list ≡ 0 → list ≡ []
+nothing [] e = refl
+nothing (c ∷ list) e = absurd (omega arith)
 
-nothing : (q : Sources) → q .count ≡ 0 → listOf q ≡ []
-unfolding listOf
-nothing q e = rw e
-
-stream-told : (on : Bool) (q : Sources) → Told (Stream on) (listOf q) (typedStream on q)
-unfolding typedStream listOf
-stream-told on q =
-    each (Told (Stream on) (listOf q)) _ (Verdict.Refused 10) _ (λ _. omega arith)
-    (λ e. each (Told (Stream on) (listOf q)) _ (Verdict.Refused 11) _ (λ _. omega arith)
-    (λ k. each (Told (Stream on) (listOf q)) (ltb mostEntries (q .count)) (Verdict.Refused 11) (Set (Stream on)) (λ _. omega arith)
-    (λ f. (tt, refl, (record { few = few (ltb-false _ _ f); known = not-false _ k }, none on e)))))
+stream-told : (on : Bool) (list : List ℕ) → Told (Stream on) list (typedStream on list)
+unfolding typedStream
+stream-told on list =
+    each (Told (Stream on) list) _ (Verdict.Refused 10) _ (λ _. omega arith)
+    (λ e. each (Told (Stream on) list) _ (Verdict.Refused 11) _ (λ _. omega arith)
+    (λ k. each (Told (Stream on) list) (not (lone (0 ∷ list))) (Verdict.Refused 12) (Set (Stream on)) (λ _. omega arith)
+    (λ l. (tt, refl, (lone-good list (not-false _ k) (not-false _ l), none on e)))))
   where
-    few : q .count ≤ mostEntries → length (listOf q) ≤ mostEntries
-    few h = list-le (q .count) (q .codes) mostEntries h
-
-    none : (b : Bool) → (not b && not (eqb (q .count) 0)) ≡ false → b ≡ false → listOf q ≡ []
+    none : (b : Bool) → (not b && not (eqb (length list) 0)) ≡ false → b ≡ false → list ≡ []
     none true e f = absurd (true≢false f)
-    none false e f = nothing q (eqb-true (q .count) 0 (not-false _ e))
+    none false e f = nothing list (eqb-true (length list) 0 (not-false _ e))
 
 pub told : (x : Setting) (q : Sources) → Told x (listOf q) (typedVerdict x q)
 unfolding typedVerdict
@@ -176,4 +171,4 @@ told (Control d) q = digit-told (listOf q) (Control d) (standard .controlHigh) d
 told (Cathode d) q = digit-told (listOf q) (Cathode d) (standard .cathodeHigh) d (λ l. (l, refl, tt))
 told (Filament d) q = digit-told (listOf q) (Filament d) (standard .filamentHigh) d (λ l. (l, refl, tt))
 told (Switch t) q = transition-told (listOf q) t
-told (Stream on) q = stream-told on q
+told (Stream on) q = stream-told on (listOf q)

@@ -1,0 +1,81 @@
+-- SM: where a list is refused with 12.
+use mathlib.Core.Path.{_≡_, refl, sym, ap, _∙_}
+use mathlib.Core.Bool.{Bool, true, false, not, _||_}
+use mathlib.Core.List.{List, [], _∷_, map}
+use Prim.Native.Nat.{ℕ, _+_}
+use native.Mathlib.Omega.{arith}
+use borrow.Author.Tests.{eqb-true, ne-eqb, not-false}
+use lib.Dec.{eqb}
+use lib.ListN.{drop}
+use Rattle.buffer.specs.First.{pick}
+use Rattle.buffer.specs.Byte.{every, within, leading, startsWith}
+use Rattle.sources.specs.Source.{knownSources, among, lone, listText}
+use Rattle.sources.specs.Entries.{codeOf, entriesOf, entriesNumber}
+use Rattle.sources.specs.Theorems.{Repeat}
+use Rattle.sources.proofs.Weights.{repeat-exactly, longer}
+use Rattle.settings.specs.declared.Setting.the-variants.{Stream}
+use Rattle.forms.specs.Forms.{idleList, knownMode, streamOf, streamData}
+use Rattle.forms.specs.Judged.{verdictOf, verdictNumber}
+use Rattle.forms.specs.declared.Verdict.the-variants.{Set, Refused}
+use Rattle.forms_facts.proofs.Lemmas.Lists.{listed, listed-known, listed-text, lone-number}
+use Rattle.forms_facts.proofs.Lemmas.Texts.{none-number, list-number}
+use Rattle.forms_facts.proofs.Again.{alone}
+use Rattle.forms_facts.specs.Theorems.{LogicExactly, LongerLogic}
+
+-- what a refusal with 12 went by
+record Twelve (s : List ℕ) (n : ℕ) : Type 0 where
+  formed : eqb n 10 ≡ false
+  busy : idleList s ≡ false
+  mode : knownMode s ≡ true
+  known : eqb n 11 ≡ false
+  twice : eqb n 12 ≡ true
+
+twelve : (s : List ℕ) (n : ℕ) (a b c d e f : Bool) → eqb (leading s) 0 ≡ a → eqb n 10 ≡ b → idleList s ≡ c → not (knownMode s) ≡ d → eqb n 11 ≡ e → eqb n 12 ≡ f
+    → verdictNumber (pick a (Refused 10) (pick b (Refused 10) (pick c (Refused 10) (pick d (Refused 11) (pick e (Refused 11) (pick f (Refused 12) (Set (Stream (startsWith 52 s))))))))) ≡ 12
+    → Twelve s n
+unfolding pick
+twelve s n false false false false false true p q r t u v h = record { formed = q; busy = r; mode = not-false _ t; known = u; twice = v }
+twelve s n true b c d e f p q r t u v h = absurd (omega arith)
+twelve s n false true c d e f p q r t u v h = absurd (omega arith)
+twelve s n false false true d e f p q r t u v h = absurd (omega arith)
+twelve s n false false false true e f p q r t u v h = absurd (omega arith)
+twelve s n false false false false true f p q r t u v h = absurd (omega arith)
+twelve s n false false false false false false p q r t u v h = absurd (omega arith)
+
+abbrev Holds : List ℕ → Type 0
+Holds s = (list : List ℕ) × (s ≡ 52 ∷ listText list) × (every (among knownSources) list ≡ true) × Repeat (0 ∷ list)
+
+-- `0` has no list, so the mode is `4`
+mode-4 : (x : ℕ) (t : List ℕ) → idleList (x ∷ t) ≡ false → knownMode (x ∷ t) ≡ true → eqb (entriesNumber t) 12 ≡ true → x ≡ 52
+unfolding idleList knownMode startsWith
+mode-4 x t i m e = go (eqb x 48) refl i m
+  where
+    go : (b : Bool) → eqb x 48 ≡ b → idleList (x ∷ t) ≡ false → (b || eqb x 52) ≡ true → x ≡ 52
+    go true f i m = absurd (omega (arith, eqb-true (entriesNumber t) 12 e, ap entriesNumber (alone x t (eqb x 48) i f) ∙ none-number))
+    go false f i m = eqb-true x 52 m
+
+holds : (s : List ℕ) → Twelve s (entriesNumber (drop 1 s)) → Holds s
+holds [] w = absurd (omega (arith, eqb-true (entriesNumber []) 12 (w .twice), none-number))
+holds (x ∷ t) w =
+    let l = listed t (w .formed) (w .known) in
+    let codes = map codeOf (entriesOf t) in
+    let twice : lone (0 ∷ codes) ≡ false = lone-number (lone (0 ∷ codes)) (entriesNumber t) (l .number) ∙ ap not (w .twice) in
+    (codes, rw (mode-4 x t (w .busy) (w .mode) (w .twice), listed-text t l), listed-known t l, repeat-exactly (0 ∷ codes) .0 twice)
+
+-- a list of known sources that are not all different
+refused : (list : List ℕ) → every (among knownSources) list ≡ true → lone (0 ∷ list) ≡ false → streamData (52 ∷ listText list) ≡ Refused 12
+unfolding streamData streamOf leading startsWith idleList knownMode pick within
+refused list k l =
+    let n : entriesNumber (listText list) ≡ 12 = list-number list k ∙ rw l in
+    rw (ne-eqb (leading (listText list) + 1) 0 (λ (e : leading (listText list) + 1 ≡ 0). omega arith), n)
+
+pub logic-exactly : LogicExactly
+unfolding verdictOf streamData streamOf
+logic-exactly s = (
+  λ e. holds s (twelve s (entriesNumber (drop 1 s)) _ _ _ _ _ _ refl refl refl refl refl refl (ap verdictNumber e)),
+  λ w. rw (w .1) (refused (w .0) (w .2) (repeat-exactly (0 ∷ w .0) .1 (w .3))),
+)
+
+pub longer-logic : LongerLogic
+unfolding verdictOf among
+longer-logic list k h = refused list k (longer knownSources list refl k h)

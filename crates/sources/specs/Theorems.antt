@@ -1,0 +1,42 @@
+-- What is proved here besides the contracts, each statement as a type; proofs/ has the proofs. "A gauge has seven sources, so at most six
+-- entries can pass, and any longer list of known sources holds a repeat or a `0`."
+use mathlib.Core.Path.{_≡_}
+use mathlib.Core.Bool.{true, false}
+use mathlib.Core.List.{List, _∷_}
+use mathlib.Core.Logic.{_↔_}
+use Prim.Native.Nat.{ℕ, _≤_, _<_}
+use lib.ListN.{length}
+use Rattle.buffer.specs.Byte.{at, every}
+use Rattle.sources.specs.Source.{knownSources, among, lone, listable, mostEntries, total, capacity, listOf}
+use Rattle.sources.specs.declared.Sources.{Sources}
+
+-- a source that stands at two places of a list
+pub record Repeat (list : List ℕ) : Type 0 where
+  pub early : ℕ
+  pub late : ℕ
+  pub apart : early < late
+  pub inside : late < length list
+  pub same : at list early ≡ at list late
+
+-- `lone` finds every repeat, and nothing else
+abbrev pub RepeatExactly : Type 0
+RepeatExactly = (list : List ℕ) → (lone list ≡ false) ↔ Repeat list
+
+-- THE WEIGHTS: over sources that are known and stand once, the sum of any weight is at most the sum over all sources
+abbrev pub Weights : Type 0
+Weights = (weight : ℕ → ℕ) (codes list : List ℕ) → every (among codes) list ≡ true → lone list ≡ true → total weight list ≤ total weight codes
+
+-- "at most six entries can pass", whatever the sources are
+abbrev pub AtMost : Type 0
+AtMost = (codes list : List ℕ) → among codes 0 ≡ true → listable codes list ≡ true → length list ≤ mostEntries codes
+
+abbrev pub MostIs : Type 0
+MostIs = mostEntries knownSources ≡ 6
+
+-- the count of a list with a place left is fixed by its sources
+abbrev pub CountFixed : Type 0
+CountFixed = (q : Sources) → length (q .codes) ≡ capacity → length (listOf q) < capacity → q .count ≡ length (listOf q)
+
+-- "any longer list of known sources holds a repeat or a `0`": with the `0` before it, a repeat
+abbrev pub LongerRepeats : Type 0
+LongerRepeats = (codes list : List ℕ) → among codes 0 ≡ true → every (among codes) list ≡ true → mostEntries codes < length list → Repeat (0 ∷ list)

@@ -49,7 +49,8 @@ uint16_t perrezkun_opg_crc(const uint8_t *bytes, size_t bytes_len);
 
 /*
  * Reads any bytes as a V1 or V2 request and writes that request again, in the one form in which the master sends it. Returns 0, or the number of
- * the first refusal of the reader (2, 3, 4, 6 to 11, and 12 where F is not below T) or of the writer (1 where less than 109 bytes are lent).
+ * the first refusal of the reader (2, 3, 4, 6 to 11, and 12 where F is not below T or a stream list has a source twice or `0`) or
+ * of the writer (1 where less than 109 bytes are lent).
  *
  * request  read
  * out      written: the frame at its front; all other bytes, and all of it where the request is refused, stay as they were.

@@ -8,6 +8,7 @@ pub mod opg;
 pub mod random;
 pub mod replay;
 pub mod script;
+pub mod sequence;
 pub mod text;
 pub mod typed;
 

@@ -449,7 +449,7 @@ impl Generator {
     // Edges that plain chance seldom meets
 
     fn edge_call(&mut self) {
-        match self.random.below(12) {
+        match self.random.below(14) {
             0 => self.edge_of_shape(),
             1 => self.edge_of_order(),
             2..=3 => self.edge_of_data(),
@@ -457,7 +457,7 @@ impl Generator {
             5 => self.edge_of_reply(),
             6 => self.edge_of_opg(),
             7 => self.edge_of_opg_reply(),
-            8..=10 => self.edge_of_list(),
+            8..=12 => self.edge_of_list(),
             _ => self.longest_line(),
         }
     }

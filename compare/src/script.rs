@@ -46,21 +46,21 @@ fn next(script: &[u8]) -> Option<(usize, usize)> {
     (size <= script.len()).then_some((size, lent))
 }
 
+/// The whole calls of a script, each with the bytes lent.
+pub fn calls(script: &[u8]) -> impl Iterator<Item = (&[u8], usize)> {
+    let mut rest = script;
+    std::iter::from_fn(move || {
+        let (size, lent) = next(rest)?;
+        let (call, after) = rest.split_at(size);
+        rest = after;
+        Some((call, lent))
+    })
+}
+
 /// Of so many calls of a script, those of the text gauge and those of the OPG.
-pub fn by_gauge(script: &[u8], calls: usize) -> (usize, usize) {
-    let (mut rest, mut counts) = (script, (0, 0));
-    for _ in 0..calls {
-        let Some((size, _)) = next(rest) else {
-            break;
-        };
-        if rest[0] < 3 {
-            counts.0 += 1;
-        } else {
-            counts.1 += 1;
-        }
-        rest = &rest[size..];
-    }
-    counts
+pub fn by_gauge(script: &[u8], made: usize) -> (usize, usize) {
+    let text = calls(script).take(made).filter(|(call, _)| call[0] < 3).count();
+    (text, made - text)
 }
 
 impl Gauges {

@@ -1,9 +1,11 @@
 //! Item 6 of document 02, "No repeated sources": its worked cases. Frames stand
 //! here without their CR; their bytes were worked out apart from the programs.
 
-use compare::met;
-use compare::random::Generator;
+use compare::met::{self, Met};
+use compare::random::{Generator, Random};
 use compare::replay::{to_hex, World};
+use compare::script::{by_gauge, Gauges};
+use compare::sequence::{sequence_of, MOST_CALLS};
 use compare::text::request::read_sm;
 use compare::text::SOURCES;
 use std::collections::BTreeSet;
@@ -197,15 +199,34 @@ fn every_short_list() {
     }
 }
 
-/// A comparison at random meets each kind of list by each that judges one.
+/// Random calls in lines meet each kind of list by each that judges one.
 #[test]
-fn random_calls_meet_each_kind() {
+fn random_lines_meet_each_kind() {
     let mut generator = Generator::new(1);
-    let mut world = World::start();
-    let mut met = BTreeSet::new();
-    for _ in 0..50_000 {
-        let call = generator.call();
-        met.extend(met::by(&call, &world.run(&call)));
+    let script = (0..50_000).map(|_| generator.call() + "\n").collect::<String>();
+    assert_eq!(Met::in_lines(script.as_bytes()).missing(&met::JUDGES), [""; 0]);
+}
+
+/// So do sequences for the static library, by the judges that it has.
+#[test]
+fn sequences_meet_each_kind() {
+    let (mut met, mut random) = (Met::default(), Random::new(1));
+    let mut made = (0, 0);
+    for seed in 1.. {
+        if made.0 >= 50_000 && made.1 >= 50_000 {
+            break;
+        }
+        let sequence = sequence_of(seed, &mut random);
+        let (mut memory, mut numbers) = (vec![0; MOST_CALLS * 260], [0; MOST_CALLS * 2]);
+        let mut lens = numbers;
+        let calls = Gauges::start().play(&sequence.script, &mut memory, &mut numbers, &mut lens);
+        met.play(&sequence.script, &memory, &numbers[..calls], &lens[..calls]);
+        for request in sequence.requests {
+            let call = format!("request {}", to_hex(&request));
+            met.call(&call, &World::start().run(&call));
+        }
+        let (text, opg) = by_gauge(&sequence.script, calls);
+        made = (made.0 + text, made.1 + opg);
     }
-    assert_eq!(met, met::all().into_iter().collect());
+    assert_eq!(met.missing(&met::IN_LIBRARY), [""; 0]);
 }

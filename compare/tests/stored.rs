@@ -1,16 +1,24 @@
 //! The answers that the gate expects of the proved `replay` are the reference's,
-//! byte for byte.
+//! byte for byte, and its script meets each kind of list and of line.
 
+use compare::met::{Met, JUDGES};
 use compare::replay::{lines_of, World};
+
+fn stored(name: &str) -> Vec<u8> {
+    std::fs::read(format!("{}/../crates/replay/{name}", env!("CARGO_MANIFEST_DIR"))).unwrap()
+}
 
 #[test]
 fn stored_answers_are_the_references() {
-    let folder = concat!(env!("CARGO_MANIFEST_DIR"), "/../crates/replay");
-    let script = std::fs::read(format!("{folder}/stdin")).unwrap();
-    let stored = std::fs::read(format!("{folder}/stdout")).unwrap();
+    let (script, stored) = (stored("stdin"), stored("stdout"));
     let answers = World::start().print(&script);
     let differs = lines_of(&stored).iter().zip(lines_of(&answers)).position(|(one, two)| *one != two);
     assert_eq!(differs.map(|at| at + 1), None, "the first line that differs");
     assert!(stored == answers, "the stored answers end elsewhere");
     assert!(lines_of(&script).len() > 4000, "the stored script is short");
+}
+
+#[test]
+fn stored_script_meets_each_kind() {
+    assert_eq!(Met::in_lines(&stored("stdin")).missing(&JUDGES), [""; 0]);
 }

@@ -9,19 +9,18 @@
 #[path = "../proved.rs"]
 mod proved;
 
-use compare::met;
+use compare::met::{self, Met};
 use compare::opg;
 use compare::random::{Generator, Random};
-use compare::replay::{lines_of, read_hex, to_hex, World};
-use compare::script::{self, Gauges, To};
+use compare::replay::{lines_of, to_hex, World};
+use compare::script::{self, Gauges};
+use compare::sequence::{sequence_of, Sequence, MOST_CALLS};
 use compare::text::{master, request};
 use std::collections::BTreeMap;
 use std::fmt::Display;
 use std::io::{self, Write};
 use std::process::{Command, Output, Stdio};
 
-/// The calls of a sequence.
-const LINES: usize = 400;
 /// Disagreements to print.
 const SHOWN: usize = 10;
 
@@ -39,21 +38,16 @@ struct Counts {
     numbers: BTreeMap<u16, usize>,
     /// How often a typed request got each number, by `replay`.
     written: BTreeMap<u16, usize>,
-    /// What its lines showed of lists of sources.
-    lists: BTreeMap<String, usize>,
-}
-
-/// What a sequence of lines comes to: a script, and requests to rewrite.
-#[derive(Default)]
-struct Sequence {
-    script: Vec<u8>,
-    requests: Vec<Vec<u8>>,
-    opg_requests: Vec<Vec<u8>>,
+    /// The kinds of lists and lines that its lines met.
+    met: Met,
+    /// Those that the calls of the static library met.
+    met_in_library: Met,
 }
 
 /// The numbers that a writer answers.
 const WRITTEN: [u16; 10] = [0, 1, 4, 9, 10, 11, 12, 20, 21, 1002];
-/// From so many lines on, each of them is to come up, and each kind of list.
+/// From so many calls on, each of them is to come up, and each kind of list and
+/// of line.
 const ENOUGH: usize = 50_000;
 /// The fewest lines that `replay` plays.
 const FEWEST: usize = 2000;
@@ -108,7 +102,8 @@ fn report(counts: &Counts) {
     println!("CRCs: {}", counts.crcs);
     println!("lines of scripts, by the program replay: {}", counts.lines);
     println!("typed requests written, by number: {}", listed(&counts.written));
-    println!("lists of sources and the line: {}", listed(&counts.lists));
+    println!("lists of sources and lines, by replay: {}", counts.met.summary());
+    println!("lists of sources and lines, by the static library: {}", counts.met_in_library.summary());
     println!("disagreements: {}", counts.disagreements);
 }
 
@@ -128,7 +123,8 @@ fn all_compared(counts: &Counts, least: usize) -> bool {
     if least >= ENOUGH {
         let absent = WRITTEN.iter().filter(|number| !counts.written.contains_key(number));
         missing.extend(absent.map(|number| format!("a writer's {number}")));
-        missing.extend(met::all().into_iter().filter(|list| !counts.lists.contains_key(list)));
+        missing.extend(met_not(&counts.met, &met::JUDGES, "replay"));
+        missing.extend(met_not(&counts.met_in_library, &met::IN_LIBRARY, "the static library"));
     }
     for part in &missing {
         println!("not compared: {part}");
@@ -136,60 +132,9 @@ fn all_compared(counts: &Counts, least: usize) -> bool {
     missing.is_empty()
 }
 
-/// The calls of one generator, from factory settings to the first restart.
-fn sequence_of(seed: u64, random: &mut Random) -> Sequence {
-    let mut generator = Generator::new(seed);
-    let mut sequence = Sequence::default();
-    for _ in 0..LINES {
-        let line = generator.call();
-        let words: Vec<&str> = line.split(' ').collect();
-        match words[..] {
-            ["restart"] => break,
-            ["text", lent, hex] => script::push_request(&mut sequence.script, To::Text, number(lent), &bytes(hex)),
-            ["line", lent] => script::push_line(&mut sequence.script, number(lent)),
-            ["opg", lent, hex] => script::push_request(&mut sequence.script, To::Opg, number(lent), &bytes(hex)),
-            ["bench", source, value] => {
-                script::push_bench(&mut sequence.script, source, value);
-            }
-            ["opgbench", "none"] => script::push_opg_bench(&mut sequence.script, None),
-            ["opgbench", bits] => {
-                script::push_opg_bench(&mut sequence.script, u32::from_str_radix(bits, 16).ok());
-            }
-            ["request", hex] => sequence.requests.push(bytes(hex)),
-            ["opgrequest", hex] => sequence.opg_requests.push(bytes(hex)),
-            // What a reply would be makes one more request for the readers.
-            ["reply", _, request, reply] => sequence.requests.extend([bytes(request), bytes(reply)]),
-            ["opgreply", request, reply] => sequence.opg_requests.extend([bytes(request), bytes(reply)]),
-            _ => (),
-        }
-        if random.chance(4) {
-            raw_bench(&mut sequence.script, random);
-        }
-    }
-    sequence
-}
-
-fn number(word: &str) -> usize {
-    word.parse().unwrap_or(0)
-}
-
-fn bytes(hex: &str) -> Vec<u8> {
-    read_hex(hex).unwrap_or_default()
-}
-
-/// A bench setting of any numbers, which no text would give.
-fn raw_bench(script: &mut Vec<u8>, random: &mut Random) {
-    let digits = match random.below(4) {
-        0 => random.next() as u32,
-        1 => random.below(200_000) as u32,
-        2 => random.pick(&[0, 1, 10, 1000, 100_000, 999_999, 1_000_000, 1_234_560, 999_999_000, u32::MAX]),
-        _ => (random.below(1_000_000) as u32) * random.pick(&[1, 10, 100, 1000]),
-    };
-    let places = [0, 0, 0, 1, 2, 3, 5, 9, 12, 99, 255];
-    let code = if random.chance(90) { random.pick(&[0, 1, 2, 6, 7, 8, 9]) } else { random.byte() };
-    script.extend([2, random.pick(&[0, 0, 0, 0, 1, 2, 3, 4]), code, random.pick(&[0, 0, 0, 1, 255])]);
-    script.extend(digits.to_be_bytes());
-    script.extend([random.pick(&places), random.pick(&places)]);
+/// The kinds that a part was not held to.
+fn met_not(met: &Met, judges: &[&str], part: &str) -> Vec<String> {
+    met.missing(judges).iter().map(|kind| format!("{kind}, by {part}")).collect()
 }
 
 /// Plays random lines on the program and on the reference. What is printed is
@@ -214,9 +159,7 @@ fn hold_replay(counts: &mut Counts, program: &str, seed: u64, lines: usize) -> i
             let number = shown(right).split(' ').next().and_then(|word| word.parse().ok()).unwrap_or(u16::MAX);
             *counts.written.entry(number).or_default() += 1;
         }
-        if let Some(list) = met::by(&shown(call), &shown(right)) {
-            *counts.lists.entry(list).or_default() += 1;
-        }
+        counts.met.call(&shown(call), &shown(right));
         counts.lines += 1;
     }
     note(counts, output.stdout == expected, || {
@@ -250,23 +193,27 @@ fn hold(counts: &mut Counts, random: &mut Random, seed: u64, sequence: Sequence)
     let agree = same_play(counts, random, &sequence.script);
     note(counts, agree, || format!("sequence {seed}"));
     for request in &sequence.requests {
-        let agree = same_call(random, master::WRITER_ROOM, |out| proved::rewrite_text(request, out), |out| {
+        let number = same_call(random, master::WRITER_ROOM, |out| proved::rewrite_text(request, out), |out| {
             match request::read_request(request) {
                 Ok((address, typed)) => master::write(u32::from(address), &typed, out),
                 Err(number) => (number, 0),
             }
         });
-        note(counts, agree, || format!("request {}", to_hex(request)));
+        let call = format!("request {}", to_hex(request));
+        if let Some(number) = number {
+            counts.met_in_library.call(&call, &number.to_string());
+        }
+        note(counts, number.is_some(), || call);
         counts.requests += 1;
     }
     for request in &sequence.opg_requests {
-        let agree = same_call(random, opg::LEAST_ROOM, |out| proved::rewrite_opg(request, out), |out| {
+        let number = same_call(random, opg::LEAST_ROOM, |out| proved::rewrite_opg(request, out), |out| {
             match opg::read_request(request) {
                 Ok(typed) => opg::write(typed, out),
                 Err(number) => (number, 0),
             }
         });
-        note(counts, agree, || format!("OPG request {}", to_hex(request)));
+        note(counts, number.is_some(), || format!("OPG request {}", to_hex(request)));
         counts.opg_requests += 1;
     }
     let long: Vec<u8> = (0..random.below(1300)).map(|_| random.byte()).collect();
@@ -286,8 +233,8 @@ fn note(counts: &mut Counts, agree: bool, what: impl FnOnce() -> String) {
 /// Plays a script, now and then damaged, on both: whether everything agrees.
 fn same_play(counts: &mut Counts, random: &mut Random, script: &[u8]) -> bool {
     let mut script = script.to_vec();
-    let mut room = LINES * 260;
-    let mut places = (LINES * 2, LINES * 2);
+    let mut room = MOST_CALLS * 260;
+    let mut places = (MOST_CALLS * 2, MOST_CALLS * 2);
     if random.chance(10) {
         match random.below(5) {
             0 => script.truncate(random.below(script.len() + 1)),
@@ -313,7 +260,9 @@ fn same_play(counts: &mut Counts, random: &mut Random, script: &[u8]) -> bool {
     let (text, opg) = script::by_gauge(&script, calls);
     counts.text += text;
     counts.opg += opg;
-    if !agree {
+    if agree {
+        counts.met_in_library.play(&script, &there, &numbers[..calls], &lens[..calls]);
+    } else {
         explain((calls, &numbers, &lens, &here), (calls_there, &numbers_there, &lens_there, &there));
     }
     agree
@@ -333,13 +282,13 @@ fn explain(proved: Outcome, reference: Outcome) {
 }
 
 /// Makes one call on both with the same memory; compares number, length and
-/// every byte.
+/// every byte. The number; None where something differs.
 fn same_call(
     random: &mut Random,
     least: usize,
     proved: impl FnOnce(&mut [u8]) -> (u16, usize),
     reference: impl FnOnce(&mut [u8]) -> (u16, usize),
-) -> bool {
+) -> Option<u16> {
     let room = match random.below(20) {
         0 => random.below(least),
         1 => least + random.below(200),
@@ -347,5 +296,6 @@ fn same_call(
     };
     let old: Vec<u8> = (0..room).map(|_| random.byte()).collect();
     let (mut here, mut there) = (old.clone(), old);
-    proved(&mut here) == reference(&mut there) && here == there
+    let (right, answer) = (reference(&mut there), proved(&mut here));
+    (answer == right && here == there).then_some(right.0)
 }

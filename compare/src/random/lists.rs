@@ -1,5 +1,5 @@
 //! Lists of sources for SM: good ones, and ones with a repeat, a `0`, an unknown
-//! source or very many entries.
+//! source, very many entries or two faults at once.
 
 use super::Generator;
 use crate::text::SOURCES;
@@ -16,6 +16,10 @@ const DIGITS: [&str; 5] = ["0", "1", "2", "6", "7"];
 impl Generator {
     /// Data of SM, cut at the 99 bytes that data have.
     pub(super) fn stream_text(&mut self) -> String {
+        if self.random.chance(20) {
+            let (mode, list) = self.wrong_in_two_ways();
+            return format!("{mode}{}", entries(&list));
+        }
         let mode = match self.random.below(12) {
             0 => self.random.pick(&["1", "2", "3", "5", "9", "a", "", "04", "40"]),
             1 => "0",
@@ -42,8 +46,13 @@ impl Generator {
     /// The mode, the count and the seven codes of a typed list. Those past the
     /// count are any.
     pub(super) fn stream_words(&mut self) -> String {
-        let mode = if self.random.chance(20) { 0 } else { 4 };
-        let list = if mode == 0 && self.random.chance(60) { Vec::new() } else { self.source_list() };
+        let (mode, list) = match self.random.below(10) {
+            0 => ("0", Vec::new()),
+            1 => ("0", self.source_list()),
+            2..=3 => self.wrong_in_two_ways(),
+            _ => ("4", self.source_list()),
+        };
+        let mode = if mode == "0" { mode } else { "4" };
         let count = match self.random.below(12) {
             0 => self.random.pick(&[7, 8, 9, 255, 256, 65536, 4_294_967_295]),
             1 => self.random.below(8),
@@ -88,6 +97,28 @@ impl Generator {
             list.push(self.random.pick(&UNKNOWN));
         }
         list
+    }
+
+    /// A mode and a short list with a repeat or a `0`, and one more fault.
+    fn wrong_in_two_ways(&mut self) -> (&'static str, Vec<&'static str>) {
+        let count = 1 + self.random.below(5);
+        let mut list = self.different(count);
+        let fault = self.random.below(5);
+        if fault == 0 {
+            self.put(&mut list, SOURCES[0]);
+        } else {
+            self.put_repeat(&mut list);
+        }
+        let (mode, other) = match fault {
+            0..=1 => ("4", Some(self.random.pick(&UNKNOWN))),
+            2 => ("4", Some(self.random.pick(&MALFORMED))),
+            3 => ("0", None),
+            _ => (self.random.pick(&["1", "2", "3", "5", "6", "7", "8", "9"]), None),
+        };
+        if let Some(entry) = other {
+            self.put(&mut list, entry);
+        }
+        (mode, list)
     }
 
     /// So many different sources in any order, and no `0`.

@@ -349,7 +349,7 @@ fn entries_of_form(rest: &[u8]) -> Option<Vec<&[u8]>> {
 }
 
 /// One or two digits, or `T` and a digit.
-fn source_of_form(text: &[u8]) -> bool {
+pub fn source_of_form(text: &[u8]) -> bool {
     match text {
         [b'T', digit] => digit.is_ascii_digit(),
         _ => all_digits(text) && text.len() <= 2,

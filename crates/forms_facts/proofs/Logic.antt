@@ -1,5 +1,5 @@
 -- SM: where a list is refused with 12.
-use mathlib.Core.Path.{_≡_, refl, sym, ap, _∙_}
+use mathlib.Core.Path.{_≡_, refl, ap, _∙_}
 use mathlib.Core.Bool.{Bool, true, false, not, _||_}
 use mathlib.Core.List.{List, [], _∷_, map}
 use Prim.Native.Nat.{ℕ, _+_}
@@ -9,15 +9,15 @@ use lib.Dec.{eqb}
 use lib.ListN.{drop}
 use Rattle.buffer.specs.First.{pick}
 use Rattle.buffer.specs.Byte.{every, within, leading, startsWith}
-use Rattle.sources.specs.Source.{knownSources, among, lone, listText}
+use Rattle.sources.specs.Source.{knownSources, among, standOnce, listText}
 use Rattle.sources.specs.Entries.{codeOf, entriesOf, entriesNumber}
-use Rattle.sources.specs.Theorems.{Repeat}
-use Rattle.sources.proofs.Weights.{repeat-exactly, longer}
+use Rattle.sources.specs.Theorems.{RepeatOrZero}
+use Rattle.sources.proofs.Weights.{once-exactly, longer}
 use Rattle.settings.specs.declared.Setting.the-variants.{Stream}
 use Rattle.forms.specs.Forms.{idleList, knownMode, streamOf, streamData}
 use Rattle.forms.specs.Judged.{verdictOf, verdictNumber}
 use Rattle.forms.specs.declared.Verdict.the-variants.{Set, Refused}
-use Rattle.forms_facts.proofs.Lemmas.Lists.{listed, listed-known, listed-text, lone-number}
+use Rattle.forms_facts.proofs.Lemmas.Lists.{listed, listed-known, listed-text, once-number}
 use Rattle.forms_facts.proofs.Lemmas.Texts.{none-number, list-number}
 use Rattle.forms_facts.proofs.Again.{alone}
 use Rattle.forms_facts.specs.Theorems.{LogicExactly, LongerLogic}
@@ -43,27 +43,32 @@ twelve s n false false false false true f p q r t u v h = absurd (omega arith)
 twelve s n false false false false false false p q r t u v h = absurd (omega arith)
 
 abbrev Holds : List ℕ → Type 0
-Holds s = (list : List ℕ) × (s ≡ 52 ∷ listText list) × (every (among knownSources) list ≡ true) × Repeat (0 ∷ list)
+Holds s = (list : List ℕ) × (s ≡ 52 ∷ listText list) × (every (among knownSources) list ≡ true) × RepeatOrZero list
 
--- `0` has no list, so the mode is `4`
+-- `0` has no list: it is not refused with 11 or 12
+pub no-list : (t : List ℕ) → idleList (48 ∷ t) ≡ false → entriesNumber t ≡ 0
+unfolding idleList startsWith
+no-list t i = ap entriesNumber (alone 48 t true i refl) ∙ none-number
+
+-- so the mode is `4`
 mode-4 : (x : ℕ) (t : List ℕ) → idleList (x ∷ t) ≡ false → knownMode (x ∷ t) ≡ true → eqb (entriesNumber t) 12 ≡ true → x ≡ 52
-unfolding idleList knownMode startsWith
-mode-4 x t i m e = go (eqb x 48) refl i m
+unfolding knownMode startsWith
+mode-4 x t i m e = go (eqb x 48) refl m
   where
-    go : (b : Bool) → eqb x 48 ≡ b → idleList (x ∷ t) ≡ false → (b || eqb x 52) ≡ true → x ≡ 52
-    go true f i m = absurd (omega (arith, eqb-true (entriesNumber t) 12 e, ap entriesNumber (alone x t (eqb x 48) i f) ∙ none-number))
-    go false f i m = eqb-true x 52 m
+    go : (b : Bool) → eqb x 48 ≡ b → (b || eqb x 52) ≡ true → x ≡ 52
+    go true f m = absurd (omega (arith, eqb-true (entriesNumber t) 12 e, no-list t (rw (eqb-true x 48 f) at i)))
+    go false f m = eqb-true x 52 m
 
 holds : (s : List ℕ) → Twelve s (entriesNumber (drop 1 s)) → Holds s
 holds [] w = absurd (omega (arith, eqb-true (entriesNumber []) 12 (w .twice), none-number))
 holds (x ∷ t) w =
     let l = listed t (w .formed) (w .known) in
     let codes = map codeOf (entriesOf t) in
-    let twice : lone (0 ∷ codes) ≡ false = lone-number (lone (0 ∷ codes)) (entriesNumber t) (l .number) ∙ ap not (w .twice) in
-    (codes, rw (mode-4 x t (w .busy) (w .mode) (w .twice), listed-text t l), listed-known t l, repeat-exactly (0 ∷ codes) .0 twice)
+    let twice : standOnce codes ≡ false = once-number (standOnce codes) (entriesNumber t) (l .number) ∙ ap not (w .twice) in
+    (codes, rw (mode-4 x t (w .busy) (w .mode) (w .twice), listed-text t l), listed-known t l, once-exactly codes .0 twice)
 
--- a list of known sources that are not all different
-refused : (list : List ℕ) → every (among knownSources) list ≡ true → lone (0 ∷ list) ≡ false → streamData (52 ∷ listText list) ≡ Refused 12
+-- a list of known sources that do not stand once
+refused : (list : List ℕ) → every (among knownSources) list ≡ true → standOnce list ≡ false → streamData (52 ∷ listText list) ≡ Refused 12
 unfolding streamData streamOf leading startsWith idleList knownMode pick within
 refused list k l =
     let n : entriesNumber (listText list) ≡ 12 = list-number list k ∙ rw l in
@@ -73,7 +78,7 @@ pub logic-exactly : LogicExactly
 unfolding verdictOf streamData streamOf
 logic-exactly s = (
   λ e. holds s (twelve s (entriesNumber (drop 1 s)) _ _ _ _ _ _ refl refl refl refl refl refl (ap verdictNumber e)),
-  λ w. rw (w .1) (refused (w .0) (w .2) (repeat-exactly (0 ∷ w .0) .1 (w .3))),
+  λ w. rw (w .1) (refused (w .0) (w .2) (once-exactly (w .0) .1 (w .3))),
 )
 
 pub longer-logic : LongerLogic

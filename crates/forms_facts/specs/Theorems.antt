@@ -2,7 +2,7 @@
 use mathlib.Core.Path.{_≡_}
 use mathlib.Core.List.{List, [], _∷_}
 use mathlib.Core.Logic.{_↔_}
-use mathlib.Core.Bool.{Bool, true}
+use mathlib.Core.Bool.{Bool, true, false}
 use Prim.Native.Nat.{ℕ, _+_, _<_, _≤_}
 use lib.ListN.{length, drop}
 use Rattle.settings.specs.Settings.{keyOf, factory, Held, putOf, restoreOf}
@@ -13,16 +13,16 @@ use Rattle.forms.specs.declared.Verdict.the-variants.{Set}
 use Rattle.forms.specs.declared.Verdict.the-variants as verdict
 use Rattle.forms.specs.Forms.{digitData, streamData}
 use Rattle.forms.specs.declared.Digit.the-variants.{Is, Refused}
-use Rattle.sources.specs.Source.{knownSources, among, listText}
+use Rattle.sources.specs.Source.{knownSources, among, isSource, listText}
 use Rattle.sources.specs.Entries.{entriesList}
-use Rattle.sources.specs.Theorems.{Repeat}
+use Rattle.sources.specs.Theorems.{RepeatOrZero}
 use Rattle.settings.specs.Sent.{streamText, readText}
 use Rattle.settings.specs.declared.Setting.the-variants.{Stream}
 use Rattle.settings.specs.declared.Key.the-variants.{SM}
-use Rattle.buffer.specs.Byte.{every}
+use Rattle.buffer.specs.Byte.{isDigit, every}
 use Rattle.forms_facts.specs.Sound.{Sound, SoundSettings, settingIn}
 use Rattle.forms_facts.specs.Form.{Form, FormWith}
-use Rattle.forms_facts.specs.Codes.{GoodList}
+use Rattle.forms_facts.specs.Codes.{GoodList, entriesText, isKnownText}
 use Rattle.forms_facts.specs.Examples.{right, cases, well, sends}
 
 -- the column "Data": data are accepted as a setting exactly where it is the command's, the text has its form, and it is within the limits
@@ -59,10 +59,16 @@ AcceptedList = (key : Key) (s : List ℕ) → GoodList (listIn key s)
 abbrev pub AtMostSix : Type 0
 AtMostSix = (list : List ℕ) → GoodList list → length list ≤ 6
 
--- "a repeat or a listed `0` is 12 LOGIC, after RANGE": SM is refused with 12 exactly where the mode is `4`, each source is known, and with the
--- `0` before them one stands twice
+-- "a repeat or a listed `0` is 12 LOGIC, after RANGE": SM is refused with 12 exactly where the mode is `4`, each source is known, and one stands
+-- twice or is `0`
 abbrev pub LogicExactly : Type 0
-LogicExactly = (s : List ℕ) → (verdictOf SM s ≡ verdict.Refused 12) ↔ ((list : List ℕ) × (s ≡ 52 ∷ listText list) × (every (among knownSources) list ≡ true) × Repeat (0 ∷ list))
+LogicExactly = (s : List ℕ) → (verdictOf SM s ≡ verdict.Refused 12) ↔ ((list : List ℕ) × (s ≡ 52 ∷ listText list) × (every (among knownSources) list ≡ true) × RepeatOrZero list)
+
+-- "LOGIC unless a source in it is unknown"; "other one-digit modes (list or none) are RANGE": SM is refused with 11 exactly where a digit stands
+-- before entries of the form, however many they are, and the digit is another mode or, after `4`, a source is unknown
+abbrev pub RangeExactly : Type 0
+RangeExactly = (s : List ℕ) → (verdictOf SM s ≡ verdict.Refused 11)
+    ↔ ((m : ℕ) × (ts : List (List ℕ)) × (s ≡ m ∷ entriesText ts) × (isDigit m ≡ true) × (every isSource ts ≡ true) × (m ≡ 48 → ⊥) × (m ≡ 52 → every isKnownText ts ≡ false))
 
 -- "any longer list of known sources holds a repeat or a `0`": it is refused with 12, however long it is
 abbrev pub LongerLogic : Type 0

@@ -99,7 +99,7 @@ module _ (g : State) (h : HeadV2) (d : List ℕ) where
   abbrev theCommand : List ℕ
   theCommand = h .first ∷ h .second ∷ []
 
-  -- bytes that pass the rows up to ST's ends ask a typed request
+  -- bytes that pass the rows up to LOGIC in the data ask a typed request
   typed : wrongCode (h .access) ≡ false → unknownCommand (commandOf (h .first) (h .second)) ≡ false → lacks (h .access) (commandOf (h .first) (h .second)) ≡ false
       → badFormV2 (h .access) (commandOf (h .first) (h .second)) d ≡ false → outsideV2 (h .access) (commandOf (h .first) (h .second)) d ≡ false
       → againstLogic (h .access) (commandOf (h .first) (h .second)) d ≡ false → (r : RequestV2) × (askV2 h d ≡ Asks r)

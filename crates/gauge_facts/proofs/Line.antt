@@ -1,9 +1,11 @@
 -- The stream line: whole values, and no longer than the longest.
-use mathlib.Core.Path.{_≡_, refl}
+use mathlib.Core.Path.{_≡_, refl, ap}
+use mathlib.Core.Bool.{not}
 use mathlib.Core.List.{List, [], _∷_, map}
-use Prim.Native.Nat.{ℕ, _≤_}
+use Prim.Native.Nat.{ℕ, _<_, _≤_}
 use native.Mathlib.Omega.{arith}
-use borrow.Author.Tests.{ltb-false}
+use borrow.Author.Tests.{ltb-true, ltb-false}
+use lib.Dec.{ltb}
 use lib.ListN.{length}
 use Rattle.buffer.specs.First.{pick}
 use Rattle.buffer.specs.Answer.{Answer}
@@ -15,8 +17,8 @@ use Rattle.forms_facts.proofs.Lemmas.Lists.{good-listable}
 use Rattle.readings.specs.Reading.{valueText}
 use Rattle.readings_facts.proofs.Widths.{whole-value}
 use Rattle.line.specs.Line.{lineValue, shownList, valuesOf, lineAnswer}
-use Rattle.line.proofs.Laws.{line-le}
-use Rattle.gauge_facts.specs.Theorems.{LineWhole, LineFits, LineWithinLent}
+use Rattle.line.proofs.Laws.{line-le, no-room}
+use Rattle.gauge_facts.specs.Theorems.{LineWhole, LineFits, LineRoomExactly, LineWithinLent}
 
 -- a good list is shown
 pub shown-whole : (list : List ℕ) → GoodList list → shownList (standard .sourceCodes) list ≡ list
@@ -40,6 +42,18 @@ line-fits room h r =
   where
     Fits : Answer → Type 0
     Fits a = length (a .reply) ≤ 71
+
+-- 1 exactly where less than that is lent
+pub line-room-exactly : LineRoomExactly
+unfolding lineAnswer
+line-room-exactly room h r = (
+  each Room (ltb room (longestLine (standard .sourceCodes))) _ _ (λ e _. rw longest-is at (ltb-true room (longestLine (standard .sourceCodes)) e))
+      (λ _. each Room (not (h .streaming)) _ _ (λ _ n. absurd (omega arith)) (λ _ n. absurd (omega arith))),
+  λ k. ap (λ (a : Answer). a .number) (no-room room h r k),
+)
+  where
+    Room : Answer → Type 0
+    Room a = a .number ≡ 1 → room < 71
 
 -- and it lies within the memory lent
 pub line-within-lent : LineWithinLent

@@ -350,7 +350,7 @@ cathode =
     ∷ [])
     ("001" ∷ "mbar" ∷ "1.00" ∷ "1" ∷ "0" ∷ "0" ∷ "F5e0T1.5e1" ∷ "0" ∷ "0" ∷ [])
 
--- the witness of demand 3: seven values and 71 bytes, in either order of the list
+-- the witness of demand 3: seven values and 71 bytes, with the list in two orders
 abbrev pub longest : Course
 longest =
     course

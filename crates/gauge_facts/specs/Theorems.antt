@@ -3,7 +3,7 @@ use mathlib.Core.Path.{_≡_}
 use mathlib.Core.Bool.{true, false, _&&_}
 use mathlib.Core.List.{List, [], _∷_, map}
 use mathlib.Core.Logic.{_↔_}
-use Prim.Native.Nat.{ℕ, _≤_}
+use Prim.Native.Nat.{ℕ, _<_, _≤_}
 use lib.Dec.{eqb, ltb, leb}
 use lib.ListN.{length}
 use Rattle.buffer.specs.First.{_⇒_, first}
@@ -165,6 +165,10 @@ LineWhole = (list : List ℕ) (r : Readings) → GoodList list → SoundReadings
 -- no line is longer than the longest, in any state
 abbrev pub LineFits : Type 0
 LineFits = (room : ℕ) (h : Held) (r : Readings) → length (lineAnswer room h r .reply) ≤ longestLine (standard .sourceCodes)
+
+-- "ROOM, checked first": 1 exactly where less than 71 bytes are lent, whether lines are sent or not
+abbrev pub LineRoomExactly : Type 0
+LineRoomExactly = (room : ℕ) (h : Held) (r : Readings) → (lineAnswer room h r .number ≡ 1) ↔ (room < 71)
 
 -- and it lies within the memory lent
 abbrev pub LineWithinLent : Type 0

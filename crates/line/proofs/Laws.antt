@@ -6,7 +6,7 @@ use Prim.Native.Nat.{ℕ, zero, suc, _+_, _-_, _<_, _≤_}
 use native.Mathlib.Nat.{zero-add}
 use native.Mathlib.Numerals.{add-one}
 use native.Mathlib.Omega.{arith}
-use borrow.Author.Tests.{lt-ltb, le-ltb, not-false}
+use borrow.Author.Tests.{lt-ltb, le-ltb}
 use lib.Dec.{eqb, leb, ltb}
 use lib.ListN.{length, take, drop, getD, set, replicate, length-append, length-take, length-map}
 use lib.Seq.{sets, sets-eq, drop-cons, take-append-seam, getD-append-add, getD-drop}
@@ -16,7 +16,7 @@ use Rattle.buffer.specs.Answer.{silent, Stored}
 use Rattle.buffer.proofs.Rules.{each}
 use Rattle.buffer.proofs.Laws.{sets-sets, drop-step}
 use Rattle.frames.specs.Checksum.{endOf, closed}
-use Rattle.sources.specs.Source.{knownSources, among, lone, listable, total}
+use Rattle.sources.specs.Source.{knownSources, among, allDiffer, standOnce, listable, total}
 use Rattle.sources.proofs.Weights.{weights, at-most, at-most-all, line-known}
 use Rattle.settings.specs.Limits.{standard, widthOf, longestLine}
 use Rattle.settings.proofs.Laws.{longest-is}
@@ -168,14 +168,14 @@ line-is list r h = line-rows (lineValue r) (value-fits r) list h
 
 -- the list shown is empty, or one that SM can have
 pub shown-listable : (codes list : List ℕ) → among codes 0 ≡ true → listable codes (shownList codes list) ≡ true
-unfolding shownList listable lone every among
-shown-listable codes list z = each (λ (l : List ℕ). listable codes l ≡ true) (not (listable codes list)) [] list (λ _. refl) (λ e. not-false _ e)
+unfolding shownList listable allDiffer every among
+shown-listable codes list z = each (λ (l : List ℕ). listable codes l ≡ true) (listable codes list) list [] (λ e. e) (λ _. refl)
 
 pub few-values : FewValues
 unfolding valuesOf listable among
 few-values codes list r z =
     let shown = shownList codes list in
-    let w = and-eq-true-iff (every (among codes) shown) (lone (0 ∷ shown)) .0 (shown-listable codes list z) in
+    let w = and-eq-true-iff (every (among codes) shown) (standOnce shown) .0 (shown-listable codes list z) in
     omega (arith, at-most-all codes (0 ∷ shown) (line-known codes shown z (w .0)) (w .1), length-map (0 ∷ shown) (lineValue r))
 
 -- so a list that is shown has at most six entries
@@ -197,7 +197,7 @@ pub no-longer : NoLonger
 unfolding valuesOf joined longestLine listable total
 no-longer codes list r z =
     let shown = shownList codes list in
-    let w = and-eq-true-iff (every (among codes) shown) (lone (0 ∷ shown)) .0 (shown-listable codes list z) in
+    let w = and-eq-true-iff (every (among codes) shown) (standOnce shown) .0 (shown-listable codes list z) in
     rw length-end (simp length-append (omega (arith, value-width r 0, tail-le r shown, weights (λ c. widthOf c + 1) codes (0 ∷ shown) (line-known codes shown z (w .0)) (w .1))))
 
 pub line-le : (list : List ℕ) (r : Readings) → length (closed (joined (valuesOf (shownList (standard .sourceCodes) list) r))) ≤ 71

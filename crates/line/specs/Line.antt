@@ -4,7 +4,7 @@ use mathlib.Core.List.{List, [], _∷_, _++_, map}
 use Prim.Native.Nat.{ℕ}
 use lib.Dec.{ltb}
 use lib.ListN.{take}
-use Rattle.buffer.specs.First.{_⇒_, first}
+use Rattle.buffer.specs.First.{_⇒_, first, pick}
 use Rattle.buffer.specs.Answer.{Answer, silent}
 use Rattle.frames.specs.Checksum.{closed}
 use Rattle.sources.specs.Source.{listable}
@@ -20,7 +20,7 @@ lineValue r code = take (widthOf code) (valueText code r)
 
 -- the list that a line shows, where these are the gauge's sources: a list that SM could not have, which no call makes, is left out
 unfoldable pub shownList : List ℕ → List ℕ → List ℕ
-shownList codes list = first (not (listable codes list) ⇒ [] ∷ []) list
+shownList codes list = pick (listable codes list) list []
 
 -- "The line is source 0, then the list in order"
 unfoldable pub valuesOf : List ℕ → Readings → List (List ℕ)

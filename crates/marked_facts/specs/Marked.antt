@@ -4,24 +4,10 @@ use mathlib.Core.List.{List, [], _∷_, _++_}
 use Prim.Native.Nat.{ℕ, _+_, _-_}
 use Prim.Native.String.{String}
 use lib.ListN.{length, take}
-use lib.Ieee.{toBits, ofBits}
-use Rattle.buffer.specs.Byte.{within, every, sameText, untilOf, numeralFrom, leading, startsWith}
+use Rattle.buffer.specs.Byte.{sameText}
 use Rattle.buffer.specs.First.{pick}
 use Rattle.buffer.specs.Quoted.{bytes}
-use Rattle.frames.specs.Checksum.{sumOf, checksumOf, endOf, closed}
-use Rattle.frames.specs.Frame.{frameOf, isLetter, lengthFits, misshapen, wrongSum, wrongAddress, wrongLength, headV1, headV2}
-use Rattle.error_texts.specs.Texts.{errorOf, errorBytes}
-use Rattle.frame_writer.specs.Error.{errorHeadV2, errorHeadV1, errorLetterV1, errorDataV1}
-use Rattle.frame_writer.specs.Written.{frameV1, frameV2}
-use Rattle.decimal.specs.Exact.{normalOf, sizeOf, units}
-use Rattle.decimal.specs.Form.{numberOf, parsedOf, scanOf, unsignedOf, fractionOf, exponentOf, powerOf}
-use Rattle.decimal.specs.Number.{plus, minus, belowOf, countedOf, hundredthsOf}
-use Rattle.decimal_text.specs.Written.{writtenOf, signText, trimmed, pointed, exponentText, wholeText, twoDecimals}
-use Rattle.sources.specs.Entries.{onto, parts, sourceTexts, entriesOf, opens, entriesNumber, entriesList}
-use Rattle.sources.specs.Source.{sourceText, isSource, findSource, sourceOf, listText}
-use Rattle.settings.specs.Limits.{widthOf, longestLine}
-use Rattle.settings.specs.Sent.{unitText, transitionText, streamText, readText}
-use Rattle.settings.specs.Settings.{factoryOf, putOf, restoreOf}
+use Rattle.frames.specs.Checksum.{closed}
 use Rattle.settings.specs.declared.Key.the-variants.{C1}
 use Rattle.readings.specs.Bench.{benchOf}
 use Rattle.readings.specs.declared.Bench.the-variants.{Reads}
@@ -30,9 +16,8 @@ use Rattle.requests.specs.Command.{commandText}
 use Rattle.requests.specs.declared.Command.the-variants.{Of}
 use Rattle.requests.specs.declared.RequestV1.the-variants.{Measure, ReadFactor}
 use Rattle.requests.specs.declared.RequestV2.the-variants as v2
-use Rattle.settings.specs.Units.{unitCode}
-use Rattle.request_texts.specs.RequestText.{accessOf, commandIn, dataV2, letterV1, dataV1}
-use Rattle.request_reader.specs.Decoded.{fromV2, judgedV1, fromV1, fromFrame, requestOf}
+use Rattle.request_texts.specs.RequestText.{accessOf, commandIn, letterV1}
+use Rattle.request_reader.specs.Decoded.{requestOf}
 use Rattle.request_reader.specs.declared.Request.{Request}
 use Rattle.request_reader.specs.declared.Request.the-variants as asks
 use Rattle.replies_v1.specs.ReplyV1.{readV1, readShownV1}

@@ -27,7 +27,7 @@ unfolding streamText
 stream-le true list few = simp length-append (omega (arith, list-text-le list))
 stream-le false list few = omega arith
 
--- a list of at most seven sources, as every accepted list is
+-- a list of at most as many sources as its array has places
 pub read-le : ReadLe
 unfolding readText
 read-le h few DA = omega arith

@@ -52,7 +52,7 @@ DataV1Printed = (r : RequestV1) → Printed (dataV1 r)
 abbrev pub ErrorLe : Type 0
 ErrorLe = (e : ErrorText) → length (errorBytes e) ≤ 6
 
--- what a read of a setting sends has at most 24, where the list has at most seven sources, as every accepted list has
+-- what a read of a setting sends has at most 24, where the list has at most as many sources as its array has places
 abbrev pub ReadLe : Type 0
 ReadLe = (h : Held) → length (h .list) ≤ capacity → (key : Key) → length (readText key h) ≤ 24
 

@@ -1,4 +1,4 @@
--- Document 01, "Longest: 10 + 7 x 11 + 7 + 2 = 96 bytes": how wide each value is.
+-- What the longest line is made of: how wide each value is.
 use mathlib.Core.Path.{_≡_, refl, ap}
 use mathlib.Core.Bool.{Bool, true, false, cond}
 use mathlib.Core.List.{List, [], _∷_}

@@ -21,7 +21,7 @@ use Rattle.readings_facts.specs.Sound.{SoundReading, SoundReadings}
 use Rattle.readings_facts.specs.HalfUp.{Nearest, Digits}
 use Rattle.readings_facts.specs.Examples.{right, cases, shown, values, measured, measures}
 
--- "Longest: 10 + 7 x 11 + 7 + 2 = 96 bytes": a value has at most 10 characters, for source 7 11, a temperature at most 6
+-- what the longest line is made of: a value has at most 10 characters, for source 7 11, a temperature at most 6
 abbrev pub Widths : Type 0
 Widths = (r : Readings) → SoundReadings r → (c : ℕ) → length (valueText c r) ≤ widthOf c
 

@@ -10,7 +10,7 @@ use Rattle.decimal.specs.Exact.{normalOf}
 use Rattle.decimal.specs.declared.Number.{Number}
 use Rattle.decimal.specs.declared.Exact.{Exact}
 use Rattle.decimal.specs.declared.Hundredths.the-variants.{Whole}
-use Rattle.sources.specs.Source.{knownSources, among, lone, listOf}
+use Rattle.sources.specs.Source.{knownSources, among, standOnce, listOf}
 use Rattle.sources.specs.declared.Sources.{Sources}
 use Rattle.settings.specs.Limits.{standard, isFactor}
 use Rattle.settings.specs.declared.Transition.{Transition}
@@ -66,7 +66,7 @@ typedStream on list =
     first
     ((not on && not (eqb (length list) 0)) ⇒ verdict.Refused 10
     ∷ not (every (among knownSources) list) ⇒ verdict.Refused 11
-    ∷ not (lone (0 ∷ list)) ⇒ verdict.Refused 12
+    ∷ not (standOnce list) ⇒ verdict.Refused 12
     ∷ [])
     (verdict.Set (Stream on))
 

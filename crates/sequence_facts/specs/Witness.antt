@@ -14,7 +14,7 @@ use Rattle.sources.specs.declared.Sources.{Sources}
 use Rattle.decimal.specs.declared.Exact.{Exact}
 use Rattle.readings.specs.declared.Bench.{Bench}
 use Rattle.readings.specs.declared.Bench.the-variants.{Reads}
-use Rattle.gauge_rules.specs.State.{State, stateOf, settled, fresh}
+use Rattle.gauge_rules.specs.State.{State}
 use Rattle.gauge_rules.specs.declared.Gauge.{Gauge}
 use Rattle.sequence_facts.specs.Sequence.{Exchange, asked, benchSet, lined, History, model, Trace}
 use Rattle.sequence_facts.specs.Shown.{valuesIn}
@@ -59,11 +59,11 @@ play (c ∷ cs) = exchange (model (play cs)) c ∷ play cs
 
 -- ---- the longest line
 
-abbrev pub low : Exact
-low = record { negative = false; digits = 123456; up = 0; down = 14 }
+abbrev pub small : Exact
+small = record { negative = false; digits = 123456; up = 0; down = 14 }
 
-abbrev pub lowest : Exact
-lowest = record { negative = true; digits = 123456; up = 0; down = 14 }
+abbrev pub smallBelowZero : Exact
+smallBelowZero = record { negative = true; digits = 123456; up = 0; down = 14 }
 
 abbrev pub cold : Exact
 cold = record { negative = true; digits = 4000; up = 0; down = 2 }
@@ -75,11 +75,11 @@ longest =
     ∷ asks (bytes "0012SM154D1D2D6D7DT2DT6u" ++ (13 ∷ [])) (replicate 64 0)
     ∷ tells (Reads 9 cold)
     ∷ tells (Reads 8 cold)
-    ∷ tells (Reads 7 lowest)
-    ∷ tells (Reads 6 low)
-    ∷ tells (Reads 2 low)
-    ∷ tells (Reads 1 low)
-    ∷ tells (Reads 0 low)
+    ∷ tells (Reads 7 smallBelowZero)
+    ∷ tells (Reads 6 small)
+    ∷ tells (Reads 2 small)
+    ∷ tells (Reads 1 small)
+    ∷ tells (Reads 0 small)
     ∷ []
 
 -- the memory after the latest call

@@ -25,7 +25,7 @@ unfoldable pub transitionText : Transition → List ℕ
 transitionText (Direct n) = (68 ∷ []) ++ writtenOf n
 transitionText (Between low high) = (70 ∷ []) ++ writtenOf low ++ (84 ∷ []) ++ writtenOf high
 
--- "`0` off, or `4` and up to seven sources"
+-- "`0` off, or `4` and" a list
 unfoldable pub streamText : Bool → List ℕ → List ℕ
 streamText on list = cond on ((52 ∷ []) ++ listText list) (48 ∷ [])
 

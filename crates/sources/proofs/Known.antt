@@ -9,7 +9,7 @@ use lib.Dec.{eqb}
 use Rattle.buffer.specs.Byte.{every, sameText}
 use Rattle.buffer.proofs.Laws.{same-equal}
 use Rattle.buffer.proofs.Rules.{each}
-use Rattle.sources.specs.Source.{sourceText, isSource, findSource, sourceOf, knownSources, among}
+use Rattle.sources.specs.Source.{sourceText, isSource, findSource, sourceOf, among}
 use Rattle.sources.specs.Entries.{isKnown, codeOf}
 use Rattle.sources.specs.declared.Source.{Source}
 use Rattle.sources.specs.declared.Source.the-variants.{Known, Unknown, Malformed}
@@ -36,14 +36,14 @@ pub source-named : (codes t : List ℕ) → Named codes t (sourceOf codes t)
 unfolding sourceOf
 source-named codes t = each (Named codes t) (not (isSource t)) Malformed (findSource codes t) (λ _. tt) (λ _. find-named codes t)
 
--- the codes of texts that are all known are among the gauge's
-pub codes-known : (ts : List (List ℕ)) → every isKnown (map (sourceOf knownSources) ts) ≡ true → every (among knownSources) (map codeOf (map (sourceOf knownSources) ts)) ≡ true
+-- the codes of texts that are all known are among the codes
+pub codes-known : (codes : List ℕ) (ts : List (List ℕ)) → every isKnown (map (sourceOf codes) ts) ≡ true → every (among codes) (map codeOf (map (sourceOf codes) ts)) ≡ true
 unfolding every
-codes-known [] e = refl
-codes-known (t ∷ ts) e = go (sourceOf knownSources t) (source-named knownSources t) (codes-known ts) e
+codes-known codes [] e = refl
+codes-known codes (t ∷ ts) e = go (sourceOf codes t) (source-named codes t) (codes-known codes ts) e
   where
-    go : (r : Source) → Named knownSources t r → (every isKnown (map (sourceOf knownSources) ts) ≡ true → every (among knownSources) (map codeOf (map (sourceOf knownSources) ts)) ≡ true)
-        → (isKnown r && every isKnown (map (sourceOf knownSources) ts)) ≡ true → (among knownSources (codeOf r) && every (among knownSources) (map codeOf (map (sourceOf knownSources) ts))) ≡ true
+    go : (r : Source) → Named codes t r → (every isKnown (map (sourceOf codes) ts) ≡ true → every (among codes) (map codeOf (map (sourceOf codes) ts)) ≡ true)
+        → (isKnown r && every isKnown (map (sourceOf codes) ts)) ≡ true → (among codes (codeOf r) && every (among codes) (map codeOf (map (sourceOf codes) ts))) ≡ true
     go (Known c) h f k = rw (h .0) (f k)
     go Unknown h f k = absurd (let z : _≡_ {A = ℕ} 0 1 = cc in omega arith)
     go Malformed h f k = absurd (let z : _≡_ {A = ℕ} 0 1 = cc in omega arith)

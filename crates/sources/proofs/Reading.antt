@@ -1,14 +1,15 @@
 -- A text of entries, read from the front: what was read so far.
-use mathlib.Core.Path.{_≡_, sym, _∙_}
+use mathlib.Core.Path.{_≡_, refl, sym, _∙_}
 use mathlib.Core.Bool.{true, _&&_, and-assoc, and-true}
 use mathlib.Core.List.{List, [], _∷_, _++_, map, append-assoc, append-nil}
 use Prim.Native.Nat.{ℕ, suc, _+_, _<_}
+use native.Mathlib.Omega.{arith}
 use lib.Dec.{eqb·suc-zero}
 use lib.ListN.{length, take, drop}
 use lib.Seq.{drop-drop}
 use Rattle.buffer.specs.Byte.{every, untilOf}
 use Rattle.buffer.proofs.Laws.{drop-step, take-cut}
-use Rattle.sources.specs.Source.{sourceOf, knownSources, capacity, lone, listOf, Counted}
+use Rattle.sources.specs.Source.{sourceOf, knownSources, capacity, standOnce, among, listOf, Counted}
 use Rattle.sources.specs.Entries.{entriesOf, sourceTexts, isFormed, isKnown, codeOf, entriesNumber, entriesList, Lists}
 use Rattle.sources.specs.Inner.{Taken, Ran}
 use Rattle.sources.specs.declared.Run.{Run}
@@ -62,13 +63,13 @@ pub denied : {s : List ℕ} (k : ℕ) {r : Listed} → entriesNumber s ≡ suc k
 unfolding entriesList
 denied k e f = record { number = f .0 ∙ sym e; list = rw (e, eqb·suc-zero) (f .1); count = f .2 }
 
--- an accepted text: its sources are known, and those that found a place stand once, so that they are all
-pub granted : {s : List ℕ} {q : Sources} → entriesNumber s ≡ 0 → every isKnown (entriesOf s) ≡ true → lone (0 ∷ map codeOf (entriesOf s)) ≡ true
+-- an accepted text: its sources are known and stand once, so that all of them found a place
+pub granted : {s : List ℕ} {q : Sources} → entriesNumber s ≡ 0 → every isKnown (entriesOf s) ≡ true → standOnce (map codeOf (entriesOf s)) ≡ true
     → listOf q ≡ take capacity (map codeOf (entriesOf s)) → Counted q → Lists s (record { number = 0; sources = q })
-unfolding entriesList entriesOf
-granted {s} e k l f n = record { number = sym e; list = rw e (f ∙ kept-whole (map codeOf (entriesOf s)) (codes-known (sourceTexts s) k) l); count = n }
+unfolding entriesList entriesOf among
+granted {s} e k l f n = record { number = sym e; list = rw e (f ∙ kept-whole knownSources (omega arith) refl (map codeOf (entriesOf s)) (codes-known knownSources (sourceTexts s) k) l); count = n }
 
 -- whether those that found a place stand once is whether all do
-pub places-told : (s : List ℕ) (q : Sources) → every isKnown (entriesOf s) ≡ true → listOf q ≡ take capacity (map codeOf (entriesOf s)) → lone (0 ∷ listOf q) ≡ lone (0 ∷ map codeOf (entriesOf s))
-unfolding entriesOf
-places-told s q k f = rw f (places-tell (map codeOf (entriesOf s)) (codes-known (sourceTexts s) k))
+pub places-told : (s : List ℕ) (q : Sources) → every isKnown (entriesOf s) ≡ true → listOf q ≡ take capacity (map codeOf (entriesOf s)) → standOnce (listOf q) ≡ standOnce (map codeOf (entriesOf s))
+unfolding entriesOf among
+places-told s q k f = rw f (places-tell knownSources (omega arith) refl (map codeOf (entriesOf s)) (codes-known knownSources (sourceTexts s) k))

@@ -7,7 +7,7 @@ use lib.Dec.{eqb}
 use lib.ListN.{length}
 use Rattle.buffer.specs.First.{_⇒_, first}
 use Rattle.buffer.specs.Byte.{at, every}
-use Rattle.sources.specs.Source.{sourceOf, knownSources, lone, listOf, Counted}
+use Rattle.sources.specs.Source.{sourceOf, knownSources, standOnce, listOf, Counted}
 use Rattle.sources.specs.declared.Listed.{Listed}
 use Rattle.sources.specs.declared.Source.{Source}
 use Rattle.sources.specs.declared.Source.the-variants.{Known, Unknown, Malformed}
@@ -59,7 +59,7 @@ entriesNumber s =
     (not (opens s) ⇒ 10
     ∷ not (every isFormed es) ⇒ 10
     ∷ not (every isKnown es) ⇒ 11
-    ∷ not (lone (0 ∷ map codeOf es)) ⇒ 12
+    ∷ not (standOnce (map codeOf es)) ⇒ 12
     ∷ [])
     0
 

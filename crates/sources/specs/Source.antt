@@ -26,14 +26,18 @@ abbrev pub capacity : ℕ
 capacity = 7
 
 -- whether no source of a list stands twice
-unfoldable pub lone : List ℕ → Bool
-lone [] = true
-lone (c ∷ list) = not (among list c) && lone list
+unfoldable pub allDiffer : List ℕ → Bool
+allDiffer [] = true
+allDiffer (c ∷ list) = not (among list c) && allDiffer list
 
--- whether SM can have a list, where these are the gauge's sources: each is one of them, and "a source may stand once in a stream list, and `0`,
--- which is always first, may not be listed": of the sources of the line, `0` and then the list, none stands twice
+-- "a source may stand once in a stream list, and `0`, which is always first, may not be listed": of the sources of the line, `0` and then the
+-- list, none stands twice
+abbrev pub standOnce : List ℕ → Bool
+standOnce list = allDiffer (0 ∷ list)
+
+-- whether SM can have a list, where these are the gauge's sources
 unfoldable pub listable : List ℕ → List ℕ → Bool
-listable codes list = every (among codes) list && lone (0 ∷ list)
+listable codes list = every (among codes) list && standOnce list
 
 -- how many entries can pass: each source but `0`, once
 abbrev pub mostEntries : List ℕ → ℕ

@@ -2,12 +2,12 @@
 -- entries can pass, and any longer list of known sources holds a repeat or a `0`."
 use mathlib.Core.Path.{_≡_}
 use mathlib.Core.Bool.{true, false}
-use mathlib.Core.List.{List, _∷_}
-use mathlib.Core.Logic.{_↔_}
+use mathlib.Core.List.{List}
+use mathlib.Core.Logic.{_↔_, _⊎_}
 use Prim.Native.Nat.{ℕ, _≤_, _<_}
 use lib.ListN.{length}
 use Rattle.buffer.specs.Byte.{at, every}
-use Rattle.sources.specs.Source.{knownSources, among, lone, listable, mostEntries, total, capacity, listOf}
+use Rattle.sources.specs.Source.{knownSources, among, allDiffer, standOnce, listable, mostEntries, total, capacity, listOf}
 use Rattle.sources.specs.declared.Sources.{Sources}
 
 -- a source that stands at two places of a list
@@ -18,13 +18,21 @@ pub record Repeat (list : List ℕ) : Type 0 where
   pub inside : late < length list
   pub same : at list early ≡ at list late
 
--- `lone` finds every repeat, and nothing else
+-- "a repeat or a listed `0`"
+abbrev pub RepeatOrZero : List ℕ → Type 0
+RepeatOrZero list = Repeat list ⊎ (among list 0 ≡ true)
+
+-- `allDiffer` finds every repeat, and nothing else
 abbrev pub RepeatExactly : Type 0
-RepeatExactly = (list : List ℕ) → (lone list ≡ false) ↔ Repeat list
+RepeatExactly = (list : List ℕ) → (allDiffer list ≡ false) ↔ Repeat list
+
+-- and `standOnce` every repeat or listed `0`
+abbrev pub OnceExactly : Type 0
+OnceExactly = (list : List ℕ) → (standOnce list ≡ false) ↔ RepeatOrZero list
 
 -- THE WEIGHTS: over sources that are known and stand once, the sum of any weight is at most the sum over all sources
 abbrev pub Weights : Type 0
-Weights = (weight : ℕ → ℕ) (codes list : List ℕ) → every (among codes) list ≡ true → lone list ≡ true → total weight list ≤ total weight codes
+Weights = (weight : ℕ → ℕ) (codes list : List ℕ) → every (among codes) list ≡ true → allDiffer list ≡ true → total weight list ≤ total weight codes
 
 -- "at most six entries can pass", whatever the sources are
 abbrev pub AtMost : Type 0
@@ -33,10 +41,10 @@ AtMost = (codes list : List ℕ) → among codes 0 ≡ true → listable codes l
 abbrev pub MostIs : Type 0
 MostIs = mostEntries knownSources ≡ 6
 
+-- "any longer list of known sources holds a repeat or a `0`"
+abbrev pub LongerRepeats : Type 0
+LongerRepeats = (codes list : List ℕ) → among codes 0 ≡ true → every (among codes) list ≡ true → mostEntries codes < length list → RepeatOrZero list
+
 -- the count of a list with a place left is fixed by its sources
 abbrev pub CountFixed : Type 0
 CountFixed = (q : Sources) → length (q .codes) ≡ capacity → length (listOf q) < capacity → q .count ≡ length (listOf q)
-
--- "any longer list of known sources holds a repeat or a `0`": with the `0` before it, a repeat
-abbrev pub LongerRepeats : Type 0
-LongerRepeats = (codes list : List ℕ) → among codes 0 ≡ true → every (among codes) list ≡ true → mostEntries codes < length list → Repeat (0 ∷ list)

@@ -4,7 +4,7 @@ ghost use mathlib.Core.List.{[], _∷_, _++_};
 ghost use lib.ListN.{length};
 ghost use Rattle.buffer.specs.Byte.{every};
 ghost use Rattle.buffer.specs.Text.{textOf, cut};
-ghost use Rattle.sources.specs.Source.{knownSources, among, lone, listable, sourceOf, sourceText, listOf, Counted, Pushed, listText};
+ghost use Rattle.sources.specs.Source.{knownSources, among, allDiffer, standOnce, listable, sourceOf, sourceText, listOf, Counted, Pushed, listText};
 ghost use Rattle.sources.specs.Entries.{opens, Lists};
 ghost use Rattle.sources.specs.Inner.{Taken, Ran};
 
@@ -57,7 +57,7 @@ impl Sources {
 }
 
 // Whether a code is one of the gauge's sources.
-pub fn is_code(c: u8) -> bool
+fn is_code(c: u8) -> bool
     ensures { λ r. ⌜ r ≡ among knownSources c ⌝ }
 {
     if c == 0 {
@@ -113,7 +113,7 @@ fn has(codes: &[u8], c: u8) -> bool
 
 // Whether no code stands twice.
 fn all_differ(codes: &[u8]) -> bool
-    ensures { λ r. ⌜ r ≡ lone (now (codes .entry)) ⌝ }
+    ensures { λ r. ⌜ r ≡ allDiffer (now (codes .entry)) ⌝ }
 {
     let mut i: usize = 0;
     while i < codes.len() {
@@ -127,7 +127,7 @@ fn all_differ(codes: &[u8]) -> bool
 
 // Whether no source stands twice on the line of a list: `0`, which is always first, and then the list.
 pub fn stand_once(q: Sources) -> bool
-    ensures { λ r. ⌜ r ≡ lone (0 ∷ listOf q) ⌝ }
+    ensures { λ r. ⌜ r ≡ standOnce (listOf q) ⌝ }
 {
     let codes = q.codes;
     let n = q.size();

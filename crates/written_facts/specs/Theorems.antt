@@ -1,7 +1,7 @@
 -- What is proved here, each statement as a type; proofs/ has the proofs.
 use mathlib.Core.Path.{_≡_}
 use mathlib.Core.List.{List, _∷_}
-use mathlib.Core.Bool.{true}
+use mathlib.Core.Bool.{Bool, true, cond}
 use Prim.Native.Nat.{ℕ, _≤_}
 use Rattle.frame_writer.specs.Written.{frameV1, frameV2}
 use Rattle.requests.specs.declared.RequestV2.{RequestV2}
@@ -12,7 +12,8 @@ use Rattle.request_reader.specs.Decoded.{requestList, Decodes}
 use Rattle.request_reader.specs.declared.Request.the-variants.{V1, V2}
 use Rattle.request_reader.specs.declared.Decoded.{Decoded}
 use Rattle.buffer.specs.Byte.{every}
-use Rattle.sources.specs.Source.{knownSources, among, listText}
+use lib.Dec.{ltb}
+use Rattle.sources.specs.Source.{listText}
 use Rattle.settings.specs.declared.Key.the-variants.{SM}
 use Rattle.forms.specs.Judged.{verdictOf}
 use Rattle.request_writer.specs.Typed.{typedStream}
@@ -39,9 +40,10 @@ OtherForm = SameV2 (Set (Switch (Direct (number 5 14)))) (Set (Switch (Between (
 abbrev pub ByValue : Type 0
 ByValue = SameV2 (Set (Switch (Direct (number 5 14)))) (Set (Switch (Direct (number 500000 9))))
 
--- the writer judges a list of known sources, of any length and with any repeats, as the gauge and the readers judge its text
+-- the writer judges a list of codes of one digit, of any length, unknown sources and repeats among them, as the gauge and the readers judge
+-- its text
 abbrev pub JudgedAlike : Type 0
-JudgedAlike = (list : List ℕ) → every (among knownSources) list ≡ true → typedStream true list ≡ verdictOf SM (52 ∷ listText list)
+JudgedAlike = (on : Bool) (list : List ℕ) → every (λ c. ltb c 10) list ≡ true → typedStream on list ≡ verdictOf SM (cond on 52 48 ∷ listText list)
 
 -- a request that was read is a good request: the writer accepts it, whatever the bytes were, and writes the one frame that they fix
 abbrev pub AcceptedV2 : Type 0

@@ -1,6 +1,7 @@
 -- Lists of sources and their texts.
 use mathlib.Core.Path.{_≡_, refl, sym, ap, _∙_}
-use mathlib.Core.Bool.{Bool, true, false, cond, not, _&&_}
+use mathlib.Core.Bool.{Bool, true, false, cond, not, _&&_, true≢false}
+use mathlib.Core.Logic.{inl, inr}
 use mathlib.Core.List.{List, [], _∷_, _++_, map}
 use Prim.Native.Nat.{ℕ}
 use native.Mathlib.Omega.{arith}
@@ -9,120 +10,132 @@ use lib.Dec.{eqb, eqb·suc-zero}
 use lib.ListN.{length}
 use Rattle.buffer.specs.First.{pick}
 use Rattle.buffer.specs.Byte.{every}
-use Rattle.sources.specs.Source.{sourceOf, knownSources, listText, among, lone, listable}
+use Rattle.sources.specs.Source.{sourceOf, knownSources, listText, among, standOnce, listable}
 use Rattle.sources.proofs.Known.{Named, source-named, codes-known}
-use Rattle.sources.proofs.Weights.{at-most, repeat-exactly}
+use Rattle.sources.proofs.Weights.{at-most, once-exactly}
+use Rattle.sources.specs.Theorems.{RepeatOrZero}
 use Rattle.sources.specs.Entries.{onto, parts, sourceTexts, entriesOf, isFormed, isKnown, codeOf, opens, entriesNumber, entriesList}
 use Rattle.sources.specs.declared.Source.{Source}
 use Rattle.sources.specs.declared.Source.the-variants.{Known, Unknown, Malformed}
-use Rattle.forms_facts.specs.Codes.{GoodList}
+use Rattle.forms_facts.specs.Codes.{GoodList, entriesText}
 use Rattle.forms_facts.specs.Theorems.{AtMostSix}
 
 -- ---- the texts of sources that are all known
 
--- each text after a `D`
-unfoldable pub joined : List (List ℕ) → List ℕ
-joined [] = []
-joined (t ∷ ts) = 68 ∷ (t ++ joined ts)
-
-pub texts-known : (ts : List (List ℕ)) → every isKnown (map (sourceOf knownSources) ts) ≡ true → listText (map codeOf (map (sourceOf knownSources) ts)) ≡ joined ts
-unfolding every listText joined
+pub texts-known : (ts : List (List ℕ)) → every isKnown (map (sourceOf knownSources) ts) ≡ true → listText (map codeOf (map (sourceOf knownSources) ts)) ≡ entriesText ts
+unfolding every listText entriesText
 texts-known [] e = refl
 texts-known (t ∷ ts) e = go (sourceOf knownSources t) (source-named knownSources t) (texts-known ts) e
   where
-    go : (r : Source) → Named knownSources t r → (every isKnown (map (sourceOf knownSources) ts) ≡ true → listText (map codeOf (map (sourceOf knownSources) ts)) ≡ joined ts)
-        → (isKnown r && every isKnown (map (sourceOf knownSources) ts)) ≡ true → listText (codeOf r ∷ map codeOf (map (sourceOf knownSources) ts)) ≡ 68 ∷ (t ++ joined ts)
+    go : (r : Source) → Named knownSources t r → (every isKnown (map (sourceOf knownSources) ts) ≡ true → listText (map codeOf (map (sourceOf knownSources) ts)) ≡ entriesText ts)
+        → (isKnown r && every isKnown (map (sourceOf knownSources) ts)) ≡ true → listText (codeOf r ∷ map codeOf (map (sourceOf knownSources) ts)) ≡ 68 ∷ (t ++ entriesText ts)
     go (Known c) h f k = rw (f k, h .1)
     go Unknown h f k = absurd (let z : _≡_ {A = ℕ} 0 1 = cc in omega arith)
     go Malformed h f k = absurd (let z : _≡_ {A = ℕ} 0 1 = cc in omega arith)
 
--- ---- a text cut and joined again
+-- ---- a text cut and entriesText again
 
-joined-onto : (x : ℕ) (ts : List (List ℕ)) (s : List ℕ) → joined ts ≡ 68 ∷ s → joined (onto x ts) ≡ 68 ∷ x ∷ s
-unfolding onto joined
+joined-onto : (x : ℕ) (ts : List (List ℕ)) (s : List ℕ) → entriesText ts ≡ 68 ∷ s → entriesText (onto x ts) ≡ 68 ∷ x ∷ s
+unfolding onto entriesText
 joined-onto x [] s h = absurd (let z : _≡_ {A = ℕ} 0 1 = cc in omega arith)
 joined-onto x (t ∷ ts) s h = cc
 
-joined-parts : (s : List ℕ) → joined (parts s) ≡ 68 ∷ s
-unfolding parts joined onto
+joined-parts : (s : List ℕ) → entriesText (parts s) ≡ 68 ∷ s
+unfolding parts entriesText onto
 joined-parts [] = refl
 joined-parts (x ∷ s) = go (eqb x 68) refl (joined-parts s)
   where
-    go : (b : Bool) → eqb x 68 ≡ b → joined (parts s) ≡ 68 ∷ s → joined (cond b ([] ∷ parts s) (onto x (parts s))) ≡ 68 ∷ x ∷ s
+    go : (b : Bool) → eqb x 68 ≡ b → entriesText (parts s) ≡ 68 ∷ s → entriesText (cond b ([] ∷ parts s) (onto x (parts s))) ≡ 68 ∷ x ∷ s
     go true e h = cc (eqb-true x 68 e)
     go false e h = joined-onto x (parts s) s h
 
-pub joined-texts : (s : List ℕ) → opens s ≡ true → joined (sourceTexts s) ≡ s
-unfolding sourceTexts opens joined
+pub joined-texts : (s : List ℕ) → opens s ≡ true → entriesText (sourceTexts s) ≡ s
+unfolding sourceTexts opens entriesText
 joined-texts [] e = refl
 joined-texts (x ∷ s) e = cc (joined-parts s, eqb-true x 68 (rw (eqb·suc-zero (length s)) at e))
 
 -- ---- how a text of entries is judged
 
 -- a text of entries whose sources are all known
-pub record Listed (s : List ℕ) : Type 0 where
-  pub number : entriesNumber s ≡ pick (not (lone (0 ∷ map codeOf (entriesOf s)))) 12 0
+pub record AllKnown (s : List ℕ) : Type 0 where
+  pub number : entriesNumber s ≡ pick (not (standOnce (map codeOf (entriesOf s)))) 12 0
   pub opened : opens s ≡ true
   pub known : every isKnown (entriesOf s) ≡ true
 
 -- what is neither SYNTAX nor RANGE is such a text
-pub listed : (s : List ℕ) → eqb (entriesNumber s) 10 ≡ false → eqb (entriesNumber s) 11 ≡ false → Listed s
+pub listed : (s : List ℕ) → eqb (entriesNumber s) 10 ≡ false → eqb (entriesNumber s) 11 ≡ false → AllKnown s
 unfolding entriesNumber pick
 listed s e f = go (not (opens s)) (not (every isFormed (entriesOf s))) (not (every isKnown (entriesOf s))) refl refl refl e f
   where
     rest : ℕ
-    rest = pick (not (lone (0 ∷ map codeOf (entriesOf s)))) 12 0
+    rest = pick (not (standOnce (map codeOf (entriesOf s)))) 12 0
 
     rows : (a b c : Bool) → ℕ
     rows a b c = pick a 10 (pick b 10 (pick c 11 rest))
 
     go : (a b c : Bool) → not (opens s) ≡ a → not (every isFormed (entriesOf s)) ≡ b → not (every isKnown (entriesOf s)) ≡ c → eqb (rows a b c) 10 ≡ false → eqb (rows a b c) 11 ≡ false
-        → Listed s
+        → AllKnown s
     go false false false p q r h k = record { number = rw (p, q, r); opened = not-false _ p; known = not-false _ r }
     go true b c p q r h k = absurd (let z : _≡_ {A = ℕ} 0 1 = cc in omega arith)
     go false true c p q r h k = absurd (let z : _≡_ {A = ℕ} 0 1 = cc in omega arith)
     go false false true p q r h k = absurd (let z : _≡_ {A = ℕ} 0 1 = cc in omega arith)
 
 -- such a text is the text of its list, whose sources are known
-pub listed-known : (s : List ℕ) → Listed s → every (among knownSources) (map codeOf (entriesOf s)) ≡ true
+pub listed-known : (s : List ℕ) → AllKnown s → every (among knownSources) (map codeOf (entriesOf s)) ≡ true
 unfolding entriesOf
-listed-known s f = codes-known (sourceTexts s) (f .known)
+listed-known s f = codes-known knownSources (sourceTexts s) (f .known)
 
-pub listed-text : (s : List ℕ) → Listed s → listText (map codeOf (entriesOf s)) ≡ s
+pub listed-text : (s : List ℕ) → AllKnown s → listText (map codeOf (entriesOf s)) ≡ s
 unfolding entriesOf
 listed-text s f = texts-known (sourceTexts s) (f .known) ∙ joined-texts s (f .opened)
 
 -- none stands twice exactly if it is not refused
-pub lone-number : (b : Bool) (n : ℕ) → n ≡ pick (not b) 12 0 → b ≡ not (eqb n 12)
+pub once-number : (b : Bool) (n : ℕ) → n ≡ pick (not b) 12 0 → b ≡ not (eqb n 12)
 unfolding pick
-lone-number true n e = rw e
-lone-number false n e = rw e
+once-number true n e = rw e
+once-number false n e = rw e
 
-pub lone-zero : (b : Bool) (n : ℕ) → n ≡ pick (not b) 12 0 → eqb n 12 ≡ false → n ≡ 0
+pub once-zero : (b : Bool) (n : ℕ) → n ≡ pick (not b) 12 0 → eqb n 12 ≡ false → n ≡ 0
 unfolding pick
-lone-zero true n e h = e
-lone-zero false n e h = absurd (let z : _≡_ {A = Bool} true false = rw e at h in let y : _≡_ {A = ℕ} 0 1 = cc in omega arith)
+once-zero true n e h = e
+once-zero false n e h = absurd (let z : _≡_ {A = Bool} true false = rw e at h in let y : _≡_ {A = ℕ} 0 1 = cc in omega arith)
 
 -- ---- lists that SM can have
 
 pub none-good : GoodList []
-unfolding every
-none-good = record { known = refl; once = λ r. omega (arith, r .apart, r .inside) }
+unfolding every among
+none-good = record { known = refl; once = λ r. omega (arith, r .apart, r .inside); unlisted = refl }
 
--- known, and with the `0` before it none twice
-pub lone-good : (list : List ℕ) → every (among knownSources) list ≡ true → lone (0 ∷ list) ≡ true → GoodList list
-lone-good list k l = record { known = k; once = λ r. let z : _≡_ {A = Bool} true false = sym l ∙ repeat-exactly (0 ∷ list) .1 r in let y : _≡_ {A = ℕ} 0 1 = cc in absurd (omega arith) }
-
-pub good-lone : (list : List ℕ) → GoodList list → lone (0 ∷ list) ≡ true
-good-lone list f = go (lone (0 ∷ list)) refl
+-- known, and standing once
+pub once-good : (list : List ℕ) → every (among knownSources) list ≡ true → standOnce list ≡ true → GoodList list
+once-good list k l =
+    record {
+      known = k;
+      once = λ r. absurd (no (inl r));
+      unlisted = go (among list 0) refl;
+    }
   where
-    go : (b : Bool) → lone (0 ∷ list) ≡ b → b ≡ true
+    no : RepeatOrZero list → ⊥
+    no r = true≢false (sym l ∙ once-exactly list .1 r)
+
+    go : (b : Bool) → among list 0 ≡ b → b ≡ false
+    go true e = absurd (no (inr e))
+    go false e = refl
+
+pub good-once : (list : List ℕ) → GoodList list → standOnce list ≡ true
+good-once list f = go (standOnce list) refl
+  where
+    refuse : RepeatOrZero list → ⊥
+    refuse (inl r) = f .once r
+    refuse (inr e) = true≢false (sym e ∙ f .unlisted)
+
+    go : (b : Bool) → standOnce list ≡ b → b ≡ true
     go true e = refl
-    go false e = absurd (f .once (repeat-exactly (0 ∷ list) .0 e))
+    go false e = absurd (refuse (once-exactly list .0 e))
 
 pub good-listable : (list : List ℕ) → GoodList list → listable knownSources list ≡ true
 unfolding listable
-good-listable list f = rw (f .known, good-lone list f)
+good-listable list f = rw (f .known, good-once list f)
 
 pub at-most-six : AtMostSix
 unfolding among
@@ -131,7 +144,7 @@ at-most-six list f = at-most knownSources list refl (good-listable list f)
 -- what is accepted: such a text, and none stands twice
 pub record Fits (s : List ℕ) : Type 0 where
   pub number : entriesNumber s ≡ 0
-  pub listed : Listed s
+  pub listed : AllKnown s
   pub good : GoodList (map codeOf (entriesOf s))
 
 pub fits : (s : List ℕ) → eqb (entriesNumber s) 10 ≡ false → eqb (entriesNumber s) 11 ≡ false → eqb (entriesNumber s) 12 ≡ false → Fits s
@@ -139,9 +152,9 @@ fits s e f h =
     let w = listed s e f in
     let codes = map codeOf (entriesOf s) in
     record {
-      number = lone-zero (lone (0 ∷ codes)) (entriesNumber s) (w .number) h;
+      number = once-zero (standOnce codes) (entriesNumber s) (w .number) h;
       listed = w;
-      good = lone-good codes (listed-known s w) (lone-number (lone (0 ∷ codes)) (entriesNumber s) (w .number) ∙ ap not h);
+      good = once-good codes (listed-known s w) (once-number (standOnce codes) (entriesNumber s) (w .number) ∙ ap not h);
     }
 
 pub entries-good : (s : List ℕ) → GoodList (entriesList s)

@@ -128,7 +128,7 @@ module _ (r : Readings) where
   unfolding joined
   line-count c list = values-closed _ ∙ rw (count-append 59 (valueText c r), no-mark c, tail-count list) (omega arith)
 
--- the line of a sound state has at most eight values
+-- the line of a sound state has at most seven values
 pub line-few : (room : ℕ) (h : Held) (r : Readings) → GoodList (h .list) → SoundReadings r → valuesIn (lineAnswer room h r .reply) ≤ 7
 unfolding lineAnswer valuesIn
 line-few room h r k f = each Few _ _ _ (λ _. nothing) (λ _. each Few _ _ _ (λ _. nothing) (λ _. rw (line-whole (h .list) r k f, line-count r 0 (h .list)) (omega (arith, at-most-six (h .list) k))))

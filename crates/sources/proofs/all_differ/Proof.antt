@@ -6,18 +6,18 @@ use native.Mathlib.Omega.{arith}
 use borrow.Author.Needs.{needs}
 use lib.ListN.{length, drop, drop-of-length-le, getD}
 use Rattle.buffer.proofs.Laws.{drop-step}
-use Rattle.sources.specs.Source.{among, lone}
+use Rattle.sources.specs.Source.{among, allDiffer}
 use Rattle.sources.proofs.all_differ.Statement.{statement}
 use Rattle.sources.proofs.all_differ.Tie as tie
 
 abbrev Inv-loop : tie.InvT-loop
-Inv-loop s i₀ i = (i ≤ length s) × (lone (drop i s) ≡ lone s)
+Inv-loop s i₀ i = (i ≤ length s) × (allDiffer (drop i s) ≡ allDiffer s)
 
 abbrev μ-loop : tie.MeasureT-loop
 μ-loop s i₀ i = length s - i
 
 returns : tie.Need-returns Inv-loop μ-loop
-unfolding lone
+unfolding allDiffer
 returns c =
     let l = c .before .before .before .before .before .loop in
     let s = c .before .before .before .before .before .before .before .args .codes .now in
@@ -25,7 +25,7 @@ returns c =
     rw (drop-step s (l .i) (omega arith), again) at (l .inv .1)
 
 loop-again : tie.Need-loop-again Inv-loop μ-loop
-unfolding lone
+unfolding allDiffer
 loop-again c =
     let l = c .before .before .before .before .before .loop in
     let s = c .before .before .before .before .before .before .before .args .codes .now in
@@ -33,7 +33,7 @@ loop-again c =
     (omega arith, rw (drop-step s (l .i) (omega arith), once) at (l .inv .1))
 
 returns-2 : tie.Need-returns-2 Inv-loop μ-loop
-unfolding lone
+unfolding allDiffer
 returns-2 c =
     let l = c .before .loop in
     let s = c .before .before .before .args .codes .now in

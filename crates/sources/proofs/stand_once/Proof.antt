@@ -1,11 +1,11 @@
 -- `sources::stand_once` meets its contract.
 use mathlib.Core.Path.{_≡_, sym, ap, _∙_}
-use mathlib.Core.Bool.{true, false}
+use mathlib.Core.Bool.{false}
 use native.Mathlib.Omega.{arith}
 use borrow.Author.Needs.{needs}
 use lib.ListN.{length, length-take}
 use Rattle.buffer.proofs.Laws.{take-taken}
-use Rattle.sources.specs.Source.{among, lone, listOf}
+use Rattle.sources.specs.Source.{among, allDiffer, listOf}
 use Rattle.sources.proofs.stand_once.Statement.{statement}
 use Rattle.sources.proofs.stand_once.Tie as tie
 
@@ -17,11 +17,11 @@ listed c =
     rw (c .before .before .size .ensures, take-taken (q .count) (q .codes)) at (c .has .ensures)
 
 returns : tie.Need-returns
-unfolding lone
+unfolding allDiffer
 returns c = rw (sym (listed (c .before)) ∙ c .if1 .taken)
 
 returns-2 : tie.Need-returns-2
-unfolding lone listOf
+unfolding allDiffer listOf
 returns-2 c =
     let q = c .before .before .before .before .before .before .before .args .q in
     let other : among (listOf q) 0 ≡ false = sym (listed (c .before .before .before)) ∙ c .before .before .if1 .left in

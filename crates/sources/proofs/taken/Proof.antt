@@ -1,5 +1,5 @@
 -- `sources::taken` meets its contract.
-use mathlib.Core.Path.{refl, sym}
+use mathlib.Core.Path.{sym}
 use borrow.Author.Needs.{needs}
 use mathlib.Core.Bool.{and-true, and-false}
 use Rattle.sources.proofs.taken.Statement.{statement}

@@ -35,7 +35,7 @@ use Rattle.requests.specs.declared.RequestV1.the-variants.{Measure, ReadFactor,
 use Rattle.requests.specs.declared.AskV1.{AskV1}
 use Rattle.request_texts.specs.RequestText.{accessOf, commandIn, headFor, dataV2, digits6, letterV1, dataV1}
 use Rattle.settings.specs.Units.{unitCode}
-use Rattle.sources.specs.Source.{among, lone}
+use Rattle.sources.specs.Source.{among, allDiffer}
 use Rattle.written_facts.proofs.Lemmas.Typed.{ListFits}
 
 -- ---- V2
@@ -82,7 +82,7 @@ set-asked a y list h k = rw (named (Of (keyOf y)), judged-again y list h k)
 
 -- and its list is read again
 no-list : listIn SM (48 ∷ []) ≡ []
-unfolding listIn ifSet streamData streamOf entriesNumber entriesList entriesOf sourceTexts opens leading startsWith idleList knownMode pick within every lone among
+unfolding listIn ifSet streamData streamOf entriesNumber entriesList entriesOf sourceTexts opens leading startsWith idleList knownMode pick within every allDiffer among
 no-list = refl
 
 off-list : (list : List ℕ) → listIn SM (readText SM (putOf factory (Stream false) list)) ≡ []

@@ -1,5 +1,5 @@
 -- What a request that was read holds, so that the writer forms it as it is.
-use mathlib.Core.Path.{_≡_, refl, sym, ap, _∙_}
+use mathlib.Core.Path.{_≡_, refl, sym, ap}
 use mathlib.Core.Bool.{Bool, true, false, not, _&&_, true≢false}
 use mathlib.Core.List.{List, [], _∷_}
 use Prim.Native.Nat.{ℕ, _<_, _≤_}
@@ -17,7 +17,7 @@ use Rattle.decimal.specs.declared.Parsed.the-variants.{Value}
 use Rattle.decimal_facts.proofs.Value.{exact}
 use Rattle.frames.specs.Frame.{addressOf, wrongAddress}
 use Rattle.frames.specs.declared.HeadV2.{HeadV2}
-use Rattle.sources.specs.Source.{among, lone, listOf}
+use Rattle.sources.specs.Source.{among, allDiffer, listOf}
 use Rattle.sources.specs.Entries.{sourceTexts, entriesOf, opens, entriesNumber, entriesList}
 use Rattle.sources.specs.declared.Sources.{Sources}
 use Rattle.settings.specs.Limits.{standard}
@@ -49,7 +49,7 @@ use Rattle.requests.specs.declared.RequestV2.the-variants.{Read, Restore, Set}
 use Rattle.requests.specs.declared.AskV2.{AskV2}
 use Rattle.requests.specs.declared.AskV2.the-variants.{Asks, Refused}
 use Rattle.request_writer.specs.Typed.{exactly, limitedNumber, endsIn, typedDigit, judgedDigit, typedAddress, typedStream, typedVerdict, formedV2}
-use Rattle.forms_facts.proofs.Lemmas.Lists.{good-lone}
+use Rattle.forms_facts.proofs.Lemmas.Lists.{good-once}
 use Rattle.written_facts.proofs.Lemmas.Typed.{ListFits}
 use Rattle.settings.proofs.Laws.{factor-is}
 
@@ -70,7 +70,7 @@ both false a b c d f g = g refl
 
 -- mode 0 has no list
 idle : (s : List ℕ) → verdictOf SM s ≡ verdict.Set (Stream false) → listIn SM s ≡ []
-unfolding verdictOf listIn ifSet streamText entriesList entriesNumber entriesOf sourceTexts opens lone among every pick
+unfolding verdictOf listIn ifSet streamText entriesList entriesNumber entriesOf sourceTexts opens allDiffer among every pick
 idle s e =
     let h : s ≡ 48 ∷ [] = sym (sent-as-accepted s false e) in
     rw e (rw h)
@@ -135,7 +135,7 @@ digit-as x most d h k = rw (lt-leb 10 d (omega arith), le-ltb most d k)
 stream-as : (on : Bool) (list : List ℕ) → ListFits (Stream on) list → typedStream on list ≡ verdict.Set (Stream on)
 unfolding typedStream
 stream-as on list h =
-    sym (past _ _ _ _ (no-list on (h .1)) (past _ _ _ _ (ap not (h .0 .known)) (past _ _ _ _ (ap not (good-lone list (h .0))) refl)))
+    sym (past _ _ _ _ (no-list on (h .1)) (past _ _ _ _ (ap not (h .0 .known)) (past _ _ _ _ (ap not (good-once list (h .0))) refl)))
   where
     no-list : (b : Bool) → (b ≡ false → list ≡ []) → (not b && not (eqb (length list) 0)) ≡ false
     no-list true f = refl

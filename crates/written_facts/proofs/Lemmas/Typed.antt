@@ -19,7 +19,7 @@ use Rattle.decimal.specs.declared.Parsed.the-variants.{Value, Syntax, Range}
 use Rattle.decimal.specs.declared.Hundredths.the-variants.{Whole}
 use Rattle.decimal_facts.specs.Canonical.{Exactly}
 use Rattle.decimal_facts.proofs.Value.{exact}
-use Rattle.sources.specs.Source.{lone, listOf}
+use Rattle.sources.specs.Source.{allDiffer, listOf}
 use Rattle.sources.specs.declared.Sources.{Sources}
 use Rattle.settings.specs.Limits.{standard}
 use Rattle.settings.specs.declared.Transition.{Transition}
@@ -35,7 +35,7 @@ use Rattle.forms.specs.declared.Verdict.{Verdict}
 use Rattle.forms.specs.declared.Verdict.the-variants.{Set}
 use Rattle.forms_facts.specs.Codes.{GoodList}
 use Rattle.forms_facts.specs.Sound.{InLimits, Sound}
-use Rattle.forms_facts.proofs.Lemmas.Lists.{lone-good}
+use Rattle.forms_facts.proofs.Lemmas.Lists.{once-good}
 use Rattle.request_writer.specs.Typed.{exactly, limitedNumber, endsIn, typedDigit, judgedDigit, typedAddress, typedStream, typedVerdict}
 use Rattle.written_facts.specs.Same.{SameNumber, SameSetting}
 
@@ -155,8 +155,8 @@ unfolding typedStream
 stream-told on list =
     each (Told (Stream on) list) _ (Verdict.Refused 10) _ (λ _. omega arith)
     (λ e. each (Told (Stream on) list) _ (Verdict.Refused 11) _ (λ _. omega arith)
-    (λ k. each (Told (Stream on) list) (not (lone (0 ∷ list))) (Verdict.Refused 12) (Set (Stream on)) (λ _. omega arith)
-    (λ l. (tt, refl, (lone-good list (not-false _ k) (not-false _ l), none on e)))))
+    (λ k. each (Told (Stream on) list) (not (allDiffer (0 ∷ list))) (Verdict.Refused 12) (Set (Stream on)) (λ _. omega arith)
+    (λ l. (tt, refl, (once-good list (not-false _ k) (not-false _ l), none on e)))))
   where
     none : (b : Bool) → (not b && not (eqb (length list) 0)) ≡ false → b ≡ false → list ≡ []
     none true e f = absurd (true≢false f)

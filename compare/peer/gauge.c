@@ -1,5 +1,5 @@
-/* The text gauge of document 01, with the changes of document 02 so far (Item 6), in plain C: the yardstick for the
- * speed of the proved program `gauge`.
+/* The text gauge of document 01, with the changes of document 02 so far (Items 3 and 6), in plain C: the yardstick for
+ * the speed of the proved program `gauge`.
  *
  * It does what `gauge` does without arguments: it answers text requests from standard input, each up to its CR, on
  * standard output, from factory settings. It is written as a C programmer would for speed: one pass over a request,
@@ -51,7 +51,7 @@ static const char UNITS[3][5] = {"mbar", "Torr", "hPa"};
 /* Factory settings, and what the sensors read at the start. */
 static const struct gauge FACTORY = {
     .address = {'0', '0', '1'}, .unit = 0, .factor = 100, .cm = 1, .cc = 1, .fc = 0,
-    .direct = false, .from = {500000, 0, false}, .to = {150000, 1, false},
+    .direct = true, .from = {100000, 0, false},
     .stream = {'0'}, .stream_len = 1, .unlocked = false,
     .pressure_state = SOUND, .pressure = {100000, 0, false},
     .temperature_state = SOUND, .temperature = 2000, .fs = 0,

@@ -19,9 +19,10 @@ pub fn reads() -> Vec<Vec<u8>> {
     requests
 }
 
-/// So many text requests of a random sequence, good and damaged ones.
+/// So many text requests of a random sequence, good and damaged ones. Of the
+/// first thousand about a third is accepted.
 pub fn at_random(count: usize) -> Vec<Vec<u8>> {
-    texts(1).take(count).collect()
+    texts(12).take(count).collect()
 }
 
 /// So many text requests of a random sequence that a gauge which gets them in

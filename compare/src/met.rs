@@ -1,10 +1,11 @@
-//! Which kinds of lists of sources and of lines some calls and their answers
-//! show, so that a comparison at random can tell whether it met each.
+//! Which kinds of lists of sources, of lines and of reads of ST at factory some
+//! calls and their answers show, so that a comparison at random can tell whether
+//! it met each.
 
 use crate::replay::{lines_of, read_hex, to_hex, World};
 use crate::script;
 use crate::text::gauge::LINE_ROOM;
-use crate::text::request::source_of_form;
+use crate::text::request::{read_st, source_of_form};
 use crate::text::{ACCEPTED, LOGIC, RANGE, ROOM, SOURCES, SYNTAX};
 use std::collections::BTreeMap;
 
@@ -135,6 +136,16 @@ fn is_source(entry: &str) -> bool {
 const LONGEST: &str = "a line of 71 bytes";
 const NO_ROOM: &str = "no line in 70 bytes while SM is 4";
 
+/// What a read of ST at factory sends, and the kinds of such reads: nothing has
+/// set ST since the start; a restore has, from F and T or from another D; a write
+/// was refused after the start or a restore. And that of a D 1 that was written.
+const FACTORY_ST: &str = "D1e0";
+const ST_AT_START: &str = "ST at the start: D1e0";
+const ST_FROM_F: &str = "ST restored from F and T: D1e0";
+const ST_FROM_D: &str = "ST restored from another D: D1e0";
+const ST_REFUSED: &str = "ST at factory and a write refused: D1e0";
+const ST_WRITTEN: &str = "ST written as D 1: D1e0";
+
 fn line_of(values: usize) -> String {
     format!("a line of {values} values")
 }
@@ -143,9 +154,10 @@ fn kind_by(kind: &Kind, judge: &str) -> String {
     format!("{}: {} ({judge})", kind.name, kind.number)
 }
 
-/// All the kinds that these judges can meet, and those of lines.
+/// All the kinds that these judges can meet, and those of lines and of ST.
 fn all(judges: &[&str]) -> Vec<String> {
-    let mut all = vec![LONGEST.to_string(), NO_ROOM.to_string()];
+    let of_gauge = [LONGEST, NO_ROOM, ST_AT_START, ST_FROM_F, ST_FROM_D, ST_REFUSED, ST_WRITTEN];
+    let mut all = of_gauge.map(str::to_string).to_vec();
     all.extend((1..=SOURCES.len()).map(line_of));
     for judge in judges {
         let expressed = KINDS.iter().filter(|kind| kind.typed || *judge != TYPED);
@@ -154,12 +166,43 @@ fn all(judges: &[&str]) -> Vec<String> {
     all
 }
 
+/// What the gauge holds now, as far as a kind needs it.
+struct Held {
+    /// Whether SM is 4.
+    streams: bool,
+    /// What a write has set ST to, as it is sent; None where it is at factory.
+    st: Option<String>,
+    /// Which kind a read of ST is of.
+    st_read: Option<&'static str>,
+    /// Whether a write of ST was refused since it was set.
+    st_refused: bool,
+}
+
+impl Default for Held {
+    /// At the start.
+    fn default() -> Held {
+        Held { streams: false, st: None, st_read: Some(ST_AT_START), st_refused: false }
+    }
+}
+
+impl Held {
+    /// ST was written to this, or restored.
+    fn set_st(&mut self, written: Option<String>) {
+        let st_read = match (written.as_deref(), self.st.as_deref()) {
+            (Some(FACTORY_ST), _) => Some(ST_WRITTEN),
+            (Some(_), _) | (None, None | Some(FACTORY_ST)) => None,
+            (None, Some(held)) if held.starts_with('F') => Some(ST_FROM_F),
+            (None, Some(_)) => Some(ST_FROM_D),
+        };
+        *self = Held { st: written, st_read, st_refused: false, ..*self };
+    }
+}
+
 /// How often each kind was met.
 #[derive(Default)]
 pub struct Met {
     counts: BTreeMap<String, usize>,
-    /// Whether the gauge's SM is 4 now.
-    streams: bool,
+    held: Held,
 }
 
 impl Met {
@@ -176,7 +219,7 @@ impl Met {
     /// A play of a script in bytes from factory settings: its memory, and the
     /// number and the length of each call that was made.
     pub fn play(&mut self, script: &[u8], memory: &[u8], numbers: &[u16], lens: &[u16]) {
-        self.streams = false;
+        self.held = Held::default();
         let mut free = memory;
         for ((call, lent), (number, len)) in script::calls(script).zip(numbers.iter().zip(lens)) {
             let (part, rest) = free.split_at(lent);
@@ -194,13 +237,16 @@ impl Met {
     pub fn call(&mut self, call: &str, answer: &str) {
         let words: Vec<&str> = call.split(' ').collect();
         match words[..] {
-            ["restart"] => self.streams = false,
+            ["restart"] => self.held = Held::default(),
             ["line", lent] => self.line(lent, answer),
             _ => self.list(&words, answer),
         }
+        if let ["text", _, hex] = words[..] {
+            self.st(hex, answer);
+        }
     }
 
-    /// The kinds of these judges and of lines that were not met.
+    /// The kinds of these judges, of lines and of ST that were not met.
     pub fn missing(&self, judges: &[&str]) -> Vec<String> {
         all(judges).into_iter().filter(|kind| !self.counts.contains_key(kind)).collect()
     }
@@ -218,8 +264,8 @@ impl Met {
     }
 
     fn line(&mut self, lent: &str, answer: &str) {
-        let line = answer.split(' ').nth(2).and_then(read_hex).unwrap_or_default();
-        if self.streams && lent == "70" && number_of(answer) == Some(ROOM) {
+        let line = bytes_of(answer);
+        if self.held.streams && lent == "70" && number_of(answer) == Some(ROOM) {
             self.note(NO_ROOM.to_string());
         }
         if !line.is_empty() {
@@ -235,12 +281,50 @@ impl Met {
             return;
         };
         if words[0] == "text" && number == ACCEPTED {
-            self.streams = list.streams();
+            self.held.streams = list.streams();
         }
         for kind in KINDS.iter().filter(|kind| kind.number == number && (kind.fits)(&list)) {
             self.note(kind_by(kind, words[0]));
         }
     }
+
+    /// A request to the gauge, where it is one of ST.
+    fn st(&mut self, hex: &str, answer: &str) {
+        let frame = read_hex(hex).unwrap_or_default();
+        match (frame.get(3..6), number_of(answer)) {
+            (Some(b"0ST"), Some(ACCEPTED)) => self.read_of_st(&bytes_of(answer)),
+            (Some(b"2ST"), Some(ACCEPTED)) => {
+                let written = data_in(&frame, b"2ST").and_then(|data| read_st(data).ok());
+                self.held.set_st(written.map(|st| st.text()));
+            }
+            (Some(b"4ST"), Some(ACCEPTED)) => self.held.set_st(None),
+            (Some(b"2ST"), Some(SYNTAX | RANGE | LOGIC)) => self.held.st_refused = true,
+            _ => (),
+        }
+    }
+
+    fn read_of_st(&mut self, reply: &[u8]) {
+        if data_in(reply, b"1ST") != Some(FACTORY_ST.as_bytes()) {
+            return;
+        }
+        let refused = (self.held.st.is_none() && self.held.st_refused).then_some(ST_REFUSED);
+        for kind in self.held.st_read.into_iter().chain(refused) {
+            self.note(kind.to_string());
+        }
+    }
+}
+
+/// The bytes of a reply or a line.
+fn bytes_of(answer: &str) -> Vec<u8> {
+    answer.split(' ').nth(2).and_then(read_hex).unwrap_or_default()
+}
+
+/// The data of a frame, where it is one of this access and command.
+fn data_in<'a>(frame: &'a [u8], kind: &[u8; 3]) -> Option<&'a [u8]> {
+    if frame.get(3..6)? != kind {
+        return None;
+    }
+    frame.get(8..frame.len() - 2)
 }
 
 /// The number of an answer; a value that was read counts as accepted.
@@ -266,13 +350,10 @@ fn is_read_of_sm(hex: &str) -> bool {
     read_hex(hex).is_some_and(|frame| frame.len() == 10 && frame[3..6] == *b"0SM")
 }
 
-/// The data of a frame of this access and command.
+/// The list in a frame of this access and command.
 fn list_in_frame(hex: &str, kind: &[u8; 3]) -> Option<List> {
     let frame = read_hex(hex)?;
-    if frame.get(3..6)? != kind {
-        return None;
-    }
-    let data = String::from_utf8_lossy(frame.get(8..frame.len() - 2)?).into_owned();
+    let data = String::from_utf8_lossy(data_in(&frame, kind)?).into_owned();
     let mut parts = data.split('D').map(str::to_string);
     let (mode, entries) = (parts.next()?, parts.collect::<Vec<String>>());
     Some(List { mode, count: entries.len(), entries })

@@ -61,6 +61,12 @@ const ENDS: [&str; 25] = [
     "1", "20", "0.99999", "1.00000", "1.00001", "20.0000", "20.0001", "19.9999", "2e1", "200e-1", "0.1e1",
     "10e-1", "1e0", "5", "15", "5.00001", "1.5e1", "005.0", "5E0", "21", "0", "0.5", "20e0", "0.0002e5", "1.5e01",
 ];
+/// Texts that ST takes, the factory value of document 01 and that of Item 3 among them.
+const DIRECT: [&str; 7] = ["D1e0", "D1.00001", "D10", "D2", "D5", "D15", "D20"];
+const BETWEEN: [&str; 6] = ["F5T15", "F5e0T1.5e1", "F1T20", "F1T1.00001", "F19.9999T20", "F2T10"];
+/// Texts that it refuses.
+const NO_TRANSITIONS: [&str; 10] =
+    ["F5T5", "F15T5", "F1T1e0", "D0.99999", "D20.0001", "F0.99999T5", "F5T20.0001", "D", "F5", "D1T5"];
 /// Numbers that are odd, and texts that are none.
 const ODD_NUMBERS: [&str; 34] = [
     "0", "-0", "-0.0", "0e99", "0e-99", "1e99", "1e-99", "1e100", "1e+0", "+1", "1.", ".5", "e5", "1e", "1e-", "--1",
@@ -114,21 +120,21 @@ impl Generator {
 
     /// Puts one call, or a few that belong together, into the queue.
     fn invent(&mut self) {
-        match self.random.below(220) {
+        match self.random.below(222) {
             0 => self.push("restart".to_string()),
             1 => self.malformed(),
-            2..=11 => self.sequence(),
-            12..=33 => self.edge_call(),
-            34..=36 => self.probe(),
-            37..=66 => self.text_call(),
-            67..=74 => self.line_call(),
-            75..=95 => self.bench_call(),
-            96..=119 => self.opg_call(),
-            120..=127 => self.opg_bench_call(),
-            128..=145 => self.request_call(),
-            146..=155 => self.opg_request_call(),
-            156..=183 => self.reply_call(),
-            184..=199 => self.opg_reply_call(),
+            2..=13 => self.sequence(),
+            14..=35 => self.edge_call(),
+            36..=38 => self.probe(),
+            39..=68 => self.text_call(),
+            69..=76 => self.line_call(),
+            77..=97 => self.bench_call(),
+            98..=121 => self.opg_call(),
+            122..=129 => self.opg_bench_call(),
+            130..=147 => self.request_call(),
+            148..=157 => self.opg_request_call(),
+            158..=185 => self.reply_call(),
+            186..=201 => self.opg_reply_call(),
             _ => self.write_call(),
         }
     }
@@ -350,11 +356,12 @@ impl Generator {
 
     /// A few calls that belong together.
     fn sequence(&mut self) {
-        match self.random.below(5) {
+        match self.random.below(6) {
             0 => self.unlock_sequence(),
             1 => self.stream_sequence(),
             2 => self.address_sequence(),
             3 => self.cc_sequence(),
+            4 => self.transition_sequence(),
             _ => self.faulty_sequence(),
         }
     }
@@ -415,6 +422,34 @@ impl Generator {
                 _ => self.push_text(&build_v2(address, b'2', name, &digit)),
             }
         }
+    }
+
+    /// A transition, mostly one that is taken, a restore, a refused one; and what
+    /// is held before, between and after them.
+    fn transition_sequence(&mut self) {
+        let address = self.world.text.settings.address;
+        let read = build_v2(address, b'0', *b"ST", b"");
+        if self.random.chance(40) {
+            self.push_text(&read);
+        }
+        let data = match self.random.below(10) {
+            0..=2 => self.transition_text(),
+            3..=5 => self.random.pick(&DIRECT).to_string(),
+            6..=8 => self.random.pick(&BETWEEN).to_string(),
+            _ => "D1".to_string(),
+        };
+        self.push_text(&build_v2(address, b'2', *b"ST", data.as_bytes()));
+        if self.random.chance(30) {
+            self.push_text(&read);
+        }
+        if self.random.chance(80) {
+            self.push_text(&build_v2(address, b'4', *b"ST", b""));
+        }
+        if self.random.chance(30) {
+            let refused = self.random.pick(&NO_TRANSITIONS);
+            self.push_text(&build_v2(address, b'2', *b"ST", refused.as_bytes()));
+        }
+        self.push_text(&read);
     }
 
     /// A faulty or extreme source, asked for in each way.

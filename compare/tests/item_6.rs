@@ -199,7 +199,8 @@ fn every_short_list() {
     }
 }
 
-/// Random calls in lines meet each kind of list by each that judges one.
+/// Random calls in lines meet each kind of list by each that judges one, of line
+/// and of read of ST.
 #[test]
 fn random_lines_meet_each_kind() {
     let mut generator = Generator::new(1);

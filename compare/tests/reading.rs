@@ -14,7 +14,7 @@ const CASES: &str = include_str!("reading_c.txt");
 
 /// The cases that document 02 has changed: the case, the start of its line, and
 /// the new end of that line.
-const CHANGED: [(&str, &str, &str); 12] = [
+const CHANGED: [(&str, &str, &str); 17] = [
     // Item 6: a repeat and a listed 0 are LOGIC, and no count of entries is RANGE.
     ("C062", "     answer   ", "12 LOGIC; 0017SM06_LOGIC[<CR>"),
     ("C063", "     answer   ", "12 LOGIC; 0017SM06_LOGIC[<CR>"),
@@ -29,7 +29,13 @@ const CHANGED: [(&str, &str, &str); 12] = [
     ("C134", "     0012SM154D7D7D7D7D7D7D7Z<CR>       -> ", "12  0017SM06_LOGIC[<CR>"),
     ("C134", "     stream line (lent 95)              -> ", " 0  nothing"),
     ("C134", "     stream line (lent 96)              -> ", " 0  nothing"),
-    ("C134", "     end: DA 001, DU mbar, C1 1.00, CM 1, CC 1, FC 0, ST F5e0T1.5e1, SM ", "0, FS 0, locked"),
+    // Item 3: ST's factory value is D 1. (C134: and SM stays 0.)
+    ("C131", "     end: DA 005, DU mbar, C1 1.00, CM 1, CC 1, FC 0, ST ", "D1e0, SM 0, FS 0, locked"),
+    ("C132", "     end: DA 001, DU mbar, C1 3.50, CM 1, CC 1, FC 0, ST ", "D1e0, SM 0, FS 0, locked"),
+    ("C133", "     end: DA 001, DU mbar, C1 1.00, CM 1, CC 0, FC 0, ST ", "D1e0, SM 0, FS 0, locked"),
+    ("C134", "     end: DA 001, DU mbar, C1 1.00, CM 1, CC 1, FC 0, ST ", "D1e0, SM 0, FS 0, locked"),
+    ("C135", "     end: DA 001, DU mbar, C1 1.00, CM 1, CC 1, FC 0, ST ", "D1e0, SM 4D1, FS 0, locked"),
+    ("C136", "     end: DA 001, DU mbar, C1 1.00, CM 1, CC 1, FC 0, ST ", "D1e0, SM 0, FS 0, locked"),
 ];
 
 /// The cases as they are now.

@@ -1,5 +1,5 @@
 //! The answers that the gate expects of the proved `replay` are the reference's,
-//! byte for byte, and its script meets each kind of list and of line.
+//! byte for byte, and its script meets each kind of list, of line and of read of ST.
 
 use compare::met::{Met, JUDGES};
 use compare::replay::{lines_of, World};

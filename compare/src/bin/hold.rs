@@ -38,7 +38,7 @@ struct Counts {
     numbers: BTreeMap<u16, usize>,
     /// How often a typed request got each number, by `replay`.
     written: BTreeMap<u16, usize>,
-    /// The kinds of lists and lines that its lines met.
+    /// The kinds of lists, of lines and of reads of ST that its lines met.
     met: Met,
     /// Those that the calls of the static library met.
     met_in_library: Met,
@@ -46,8 +46,8 @@ struct Counts {
 
 /// The numbers that a writer answers.
 const WRITTEN: [u16; 10] = [0, 1, 4, 9, 10, 11, 12, 20, 21, 1002];
-/// From so many calls on, each of them is to come up, and each kind of list and
-/// of line.
+/// From so many calls on, each of them is to come up, and each kind of list, of
+/// line and of read of ST.
 const ENOUGH: usize = 50_000;
 /// The fewest lines that `replay` plays.
 const FEWEST: usize = 2000;
@@ -102,8 +102,8 @@ fn report(counts: &Counts) {
     println!("CRCs: {}", counts.crcs);
     println!("lines of scripts, by the program replay: {}", counts.lines);
     println!("typed requests written, by number: {}", listed(&counts.written));
-    println!("lists of sources and lines, by replay: {}", counts.met.summary());
-    println!("lists of sources and lines, by the static library: {}", counts.met_in_library.summary());
+    println!("lists of sources, lines and reads of ST, by replay: {}", counts.met.summary());
+    println!("lists of sources, lines and reads of ST, by the static library: {}", counts.met_in_library.summary());
     println!("disagreements: {}", counts.disagreements);
 }
 

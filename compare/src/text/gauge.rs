@@ -29,7 +29,7 @@ impl Settings {
             cm: 1,
             cc: 1,
             fc: 0,
-            transition: Transition::Between(Decimal::whole(5), Decimal::whole(15)),
+            transition: Transition::Direct(Decimal::whole(1)),
             stream: Stream { mode: 0, list: Vec::new() },
         }
     }

@@ -28,11 +28,7 @@ factory-sound =
       control = omega arith;
       cathode = omega arith;
       filament = omega arith;
-      transition = (
-        record { canonical = inr (record { low = omega arith; high = omega arith; place = omega arith }); low = refl; high = refl },
-        record { canonical = inr (record { low = omega arith; high = omega arith; place = omega arith }); low = refl; high = refl },
-        refl,
-      );
+      transition = record { canonical = inr (record { low = omega arith; high = omega arith; place = omega arith }); low = refl; high = refl };
       list = none-good;
     }
 

@@ -1,4 +1,4 @@
--- What a request leaves as it was.
+-- What a request leaves as it was, and what its number depends on.
 use mathlib.Core.Path.{_≡_, refl}
 use mathlib.Core.Bool.{true, false, and-false}
 use mathlib.Core.List.{List, []}
@@ -9,12 +9,14 @@ use lib.Dec.{eqb}
 use Rattle.buffer.specs.First.{pick}
 use Rattle.buffer.specs.Byte.{within}
 use Rattle.buffer.proofs.Laws.{within-true}
+use Rattle.requests.specs.declared.AskV2.{AskV2}
+use Rattle.requests.specs.declared.AskV2.the-variants.{Asks, Refused}
 use Rattle.gauge_rules.specs.State.{State}
-use Rattle.gauge_table.specs.Asked.{isV1}
+use Rattle.gauge_table.specs.Asked.{isV1, askedV2, breaksRule, asksFaulty, lockedWrite, measuresFaulty}
 use Rattle.gauge_table.specs.Table.{numberOf}
 use Rattle.gauge_table.specs.Reply.{replyOf}
 use Rattle.gauge_table.specs.After.{afterwards, nextOf}
-use Rattle.gauge_facts.specs.Theorems.{RefusedKeeps, ReadingsStay, SilentStays, V2KeepsUnlock, V1MovesUnlock, NumberMost}
+use Rattle.gauge_facts.specs.Theorems.{RefusedKeeps, ReadingsStay, SilentStays, V2KeepsUnlock, V1MovesUnlock, NumberMost, SameNumber}
 use Rattle.gauge_facts.proofs.Lemmas.Rows.{under}
 
 -- 1 to 5 are not 0
@@ -57,3 +59,19 @@ number-most g room s =
     under _ _ _ refl (under _ _ _ refl (under _ _ _ refl (under _ _ _ refl (under _ _ _ refl (
     under _ _ _ refl (under _ _ _ refl (under _ _ _ refl (under _ _ _ refl (under _ _ _ refl (
     under _ _ _ refl (under _ _ _ refl (under _ _ _ refl (under _ _ _ refl (under _ _ _ refl refl))))))))))))))
+
+-- CC's rule looks at CM alone, a fault at the readings alone
+same-rule : (g h : State) → g .settings .control ≡ h .settings .control → (a : AskV2) → breaksRule g a ≡ breaksRule h a
+unfolding breaksRule
+same-rule g h e (Asks r) = rw e
+same-rule g h e (Refused k) = refl
+
+same-fault : (g h : State) → g .readings ≡ h .readings → (a : AskV2) → asksFaulty g a ≡ asksFaulty h a
+unfolding asksFaulty
+same-fault g h e (Asks r) = rw e
+same-fault g h e (Refused k) = refl
+
+-- of what a gauge holds, its number depends on DA, CM, the readings and the unlock alone
+pub same-number : SameNumber
+unfolding numberOf lockedWrite measuresFaulty
+same-number g h address control readings unlocked room s = rw (same-rule g h control (askedV2 s), same-fault g h readings (askedV2 s), address, readings, unlocked)

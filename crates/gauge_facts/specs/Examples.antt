@@ -268,8 +268,11 @@ pub record Step : Type 0 where
   pub call : Call
   pub answer : Answer
 
+abbrev pub asksLent : ℕ → String → ℕ → String → Step
+asksLent room text number reply = record { call = lending room text; answer = record { number = number; reply = bytes reply } }
+
 abbrev pub asks : String → ℕ → String → Step
-asks text number reply = record { call = ask text; answer = record { number = number; reply = bytes reply } }
+asks text number reply = asksLent 64 text number reply
 
 abbrev pub sets : Bench → ℕ → Step
 sets setting number = record { call = SetBench setting; answer = silent number }
@@ -319,7 +322,7 @@ unlocking =
     ∷ asks "005C1I\r" 0 "005C000100y\r"
     ∷ asks "005c000300[\r" 12 "005c_LOGICE\r"
     ∷ [])
-    ("005" ∷ "mbar" ∷ "1.00" ∷ "1" ∷ "1" ∷ "0" ∷ "F5e0T1.5e1" ∷ "0" ∷ "0" ∷ [])
+    ("005" ∷ "mbar" ∷ "1.00" ∷ "1" ∷ "1" ∷ "0" ∷ "D1e0" ∷ "0" ∷ "0" ∷ [])
 
 -- the last accepted write wins, refused ones leave no trace
 abbrev pub lastWins : Course
@@ -333,7 +336,7 @@ lastWins =
     ∷ asks "0012C10g\r" 2 ""
     ∷ asks "0010C100U\r" 0 "0011C1043.50`\r"
     ∷ [])
-    ("001" ∷ "mbar" ∷ "3.50" ∷ "1" ∷ "1" ∷ "0" ∷ "F5e0T1.5e1" ∷ "0" ∷ "0" ∷ [])
+    ("001" ∷ "mbar" ∷ "3.50" ∷ "1" ∷ "1" ∷ "0" ∷ "D1e0" ∷ "0" ∷ "0" ∷ [])
 
 -- CC needs CM 0, and keeps its value when CM is 1 again
 abbrev pub cathode : Course
@@ -348,7 +351,37 @@ cathode =
     ∷ asks "0014CM00u\r" 0 "0015CM00v\r"
     ∷ asks "0010CC00g\r" 0 "0011CC010Y\r"
     ∷ [])
-    ("001" ∷ "mbar" ∷ "1.00" ∷ "1" ∷ "0" ∷ "0" ∷ "F5e0T1.5e1" ∷ "0" ∷ "0" ∷ [])
+    ("001" ∷ "mbar" ∷ "1.00" ∷ "1" ∷ "0" ∷ "0" ∷ "D1e0" ∷ "0" ∷ "0" ∷ [])
+
+-- the transition: D 1 at the start and after a restore, from either form; 1 and 20 pass, and what is refused changes nothing
+abbrev pub transition : Course
+transition =
+    course
+    (asks "0010ST00H\r" 0 "0011ST04D1e0W\r"
+    ∷ asks "0012ST05F5T15D\r" 0 "0013ST00K\r"
+    ∷ asks "0010ST00H\r" 0 "0011ST10F5e0T1.5e1X\r"
+    ∷ asks "0014ST00L\r" 0 "0015ST00M\r"
+    ∷ asks "0010ST00H\r" 0 "0011ST04D1e0W\r"
+    ∷ asks "0012ST04F5T5R\r" 12 "0017ST06_LOGICb\r"
+    ∷ asks "0010ST00H\r" 0 "0011ST04D1e0W\r"
+    ∷ asks "0012ST08D0.99999Q\r" 11 "0017ST06_RANGEa\r"
+    ∷ asks "0012ST02D1A\r" 0 "0013ST00K\r"
+    ∷ asks "0010ST00H\r" 0 "0011ST04D1e0W\r"
+    ∷ asks "0012ST05F1T20|\r" 0 "0013ST00K\r"
+    ∷ asks "0010ST00H\r" 0 "0011ST08F1e0T2e1y\r"
+    ∷ asks "0014ST02D1C\r" 10 "0017ST06SYNTAX|\r"
+    ∷ asks "0010ST00H\r" 0 "0011ST08F1e0T2e1y\r"
+    ∷ asks "0014ST00L\r" 0 "0015ST00M\r"
+    ∷ asks "0010ST00H\r" 0 "0011ST04D1e0W\r"
+    ∷ asks "0012ST08D20.0001g\r" 11 "0017ST06_RANGEa\r"
+    ∷ asks "0012ST04D2e1Z\r" 0 "0013ST00K\r"
+    ∷ asks "0010ST00H\r" 0 "0011ST04D2e1Y\r"
+    ∷ asksLent 63 "0014ST00L\r" 1 ""
+    ∷ asks "0010ST00H\r" 0 "0011ST04D2e1Y\r"
+    ∷ asks "0014ST00L\r" 0 "0015ST00M\r"
+    ∷ asks "0010ST00H\r" 0 "0011ST04D1e0W\r"
+    ∷ [])
+    ("001" ∷ "mbar" ∷ "1.00" ∷ "1" ∷ "1" ∷ "0" ∷ "D1e0" ∷ "0" ∷ "0" ∷ [])
 
 -- the witness of demand 3: seven values and 71 bytes, with the list in two orders
 abbrev pub longest : Course
@@ -367,7 +400,7 @@ longest =
     ∷ streams 70 1 ""
     ∷ streams 71 0 "1.23456e-9;1.23456e-9;1.23456e-9;1.23456e-9;-1.23456e-9;-40.00;-40.00s\r"
     ∷ [])
-    ("001" ∷ "mbar" ∷ "1.00" ∷ "1" ∷ "1" ∷ "0" ∷ "F5e0T1.5e1" ∷ "4D1D2D6D7DT2DT6" ∷ "0" ∷ [])
+    ("001" ∷ "mbar" ∷ "1.00" ∷ "1" ∷ "1" ∷ "0" ∷ "D1e0" ∷ "4D1D2D6D7DT2DT6" ∷ "0" ∷ [])
 
 -- a faulty sensor for MV, M and the line
 abbrev pub faulty : Course
@@ -383,7 +416,7 @@ faulty =
     ∷ asks "001M^\r" 0 "001M999999t\r"
     ∷ streams 71 0 "OR;1e0b\r"
     ∷ [])
-    ("001" ∷ "mbar" ∷ "1.00" ∷ "1" ∷ "1" ∷ "0" ∷ "F5e0T1.5e1" ∷ "4D1" ∷ "0" ∷ [])
+    ("001" ∷ "mbar" ∷ "1.00" ∷ "1" ∷ "1" ∷ "0" ∷ "D1e0" ∷ "4D1" ∷ "0" ∷ [])
 
 -- refused bench settings change nothing
 abbrev pub refusedBench : Course
@@ -396,10 +429,10 @@ refusedBench =
     ∷ asks "0010T200g\r" 0 "0011T20520.00]\r"
     ∷ asks "0010FS00z\r" 0 "0011FS010l\r"
     ∷ [])
-    ("001" ∷ "mbar" ∷ "1.00" ∷ "1" ∷ "1" ∷ "0" ∷ "F5e0T1.5e1" ∷ "0" ∷ "0" ∷ [])
+    ("001" ∷ "mbar" ∷ "1.00" ∷ "1" ∷ "1" ∷ "0" ∷ "D1e0" ∷ "0" ∷ "0" ∷ [])
 
 abbrev pub cases : List Case
 cases = order ++ settings ++ overV1 ++ lines
 
 abbrev pub courses : List Course
-courses = unlocking ∷ lastWins ∷ cathode ∷ longest ∷ faulty ∷ refusedBench ∷ []
+courses = unlocking ∷ lastWins ∷ cathode ∷ transition ∷ longest ∷ faulty ∷ refusedBench ∷ []

@@ -120,6 +120,12 @@ NumberOnBytes = (g : State) (room : ℕ) (s : List ℕ) → isV1 s ≡ false
     ∷ [])
     0)
 
+-- of what a gauge holds, its number for any bytes depends on DA, CM, the readings and the unlock alone: "no refusal changes" where ST starts with
+-- another value
+abbrev pub SameNumber : Type 0
+SameNumber = (g h : State) → g .settings .address ≡ h .settings .address → g .settings .control ≡ h .settings .control → g .readings ≡ h .readings → g .unlocked ≡ h .unlocked
+    → (room : ℕ) (s : List ℕ) → numberOf g room s ≡ numberOf h room s
+
 -- "lent answer memory below 64 bytes" is ROOM: no reply is longer than that, whatever list its array holds
 abbrev pub ReplyFits : Type 0
 ReplyFits = (g : State) → length (g .settings .list) ≤ capacity → (room : ℕ) (s : List ℕ) → length (replyOf g s (numberOf g room s)) ≤ 64

@@ -92,6 +92,8 @@ cases =
     ∷ reads (ask.Read (Of ST)) "0011ST04F0T5L" (11 ∷ [])
     ∷ reads (ask.Read (Of ST)) "0011ST05F0T1en" (10 ∷ [])
     ∷ reads (ask.Read (Of ST)) "0011ST02D5D" (0 ∷ 7 ∷ bytes "STD5e0")
+    -- the factory value, on the lower limit
+    ∷ reads (ask.Read (Of ST)) "0011ST04D1e0W" (0 ∷ 7 ∷ bytes "STD1e0")
     -- the list stands beside the answer
     ∷ record { address = 1; request = ask.Read (Of SM); frame = bytes "0011SM064D7DT2A" ++ (13 ∷ []); shown = 0 ∷ 7 ∷ bytes "SM4"; list = 7 ∷ 8 ∷ [] }
     ∷ record { address = 1; request = ask.Read (Of SM); frame = bytes "0011SM154D1D2D6D7DT2DT6t" ++ (13 ∷ []); shown = 0 ∷ 7 ∷ bytes "SM4"; list = 1 ∷ 2 ∷ 6 ∷ 7 ∷ 8 ∷ 9 ∷ [] }

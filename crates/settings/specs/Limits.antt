@@ -8,7 +8,7 @@ use Rattle.buffer.specs.Byte.{within}
 use Rattle.decimal.specs.declared.Number.{Number}
 use Rattle.sources.specs.Source.{knownSources, total}
 use Rattle.settings.specs.declared.Transition.{Transition}
-use Rattle.settings.specs.declared.Transition.the-variants.{Between}
+use Rattle.settings.specs.declared.Transition.the-variants.{Direct}
 
 pub record Limits : Type 0 where
   pub addressLow : ℕ
@@ -33,7 +33,7 @@ pub record Limits : Type 0 where
 abbrev pub positive : ℕ → ℕ → Number
 positive m p = record { negative = false; mantissa = m; place = p }
 
--- the column "Data" and the factory value of ST: "each 1 to 20", "F 5, T 15"
+-- the column "Data", "each 1 to 20", and document 02: "the factory value of ST becomes D 1"
 abbrev pub standard : Limits
 standard =
     record {
@@ -47,7 +47,7 @@ standard =
       transitionLow = positive 100000 9;
       transitionHigh = positive 200000 10;
       betweenForm = true;
-      factoryTransition = Between (positive 500000 9) (positive 150000 10);
+      factoryTransition = Direct (positive 100000 9);
       sourceCodes = knownSources;
     }
 

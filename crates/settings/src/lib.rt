@@ -132,18 +132,11 @@ impl Settings {
         control: 1,
         cathode: 1,
         filament: 0,
-        transition: Transition::Between(
-            decimal::Number {
-                negative: false,
-                mantissa: 500000,
-                place: 9,
-            },
-            decimal::Number {
-                negative: false,
-                mantissa: 150000,
-                place: 10,
-            },
-        ),
+        transition: Transition::Direct(decimal::Number {
+            negative: false,
+            mantissa: 100000,
+            place: 9,
+        }),
         streaming: false,
         sources: sources::Sources {
             codes: [0, 0, 0, 0, 0, 0, 0],

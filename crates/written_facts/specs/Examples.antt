@@ -9,7 +9,7 @@ use Rattle.buffer.specs.Quoted.{bytes}
 use Rattle.buffer.specs.Answer.{Answer}
 use Rattle.decimal.specs.declared.Number.{Number}
 use Rattle.sources.specs.declared.Sources.{Sources}
-use Rattle.settings.specs.declared.Transition.the-variants.{Between}
+use Rattle.settings.specs.declared.Transition.the-variants.{Direct, Between}
 use Rattle.settings.specs.declared.Key.the-variants.{SM}
 use Rattle.settings.specs.declared.Setting.the-variants.{Address, Factor, Control, Cathode, Switch, Stream}
 use Rattle.requests.specs.declared.Command.the-variants.{MV, Of}
@@ -78,6 +78,8 @@ cases =
     ∷ sends (asks (Set (Factor 20))) "0012C1040.20["
     ∷ refused (asks (Set (Factor 801))) 11
     ∷ sends (asks (Set (Switch (Between (number 500000 9) (number 150000 10))))) "0012ST10F5e0T1.5e1Y"
+    -- the factory value, on the lower limit
+    ∷ sends (asks (Set (Switch (Direct (number 100000 9))))) "0012ST04D1e0X"
     -- the same values in other forms are sent alike
     ∷ sends (asks (Set (Switch (Between (number 5 14) (number 15 14))))) "0012ST10F5e0T1.5e1Y"
     -- seven digits needed, before RANGE

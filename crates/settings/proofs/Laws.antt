@@ -1,4 +1,4 @@
--- Laws of factory values, of factors and of units, lengths of the texts that reads send, and of the longest line.
+-- Laws of factors and of units, lengths of the texts that reads send, and of the longest line.
 use mathlib.Core.Path.{_≡_, refl}
 use mathlib.Core.Bool.{Bool, true, false, cond}
 use Prim.Native.Nat.{ℕ, _<_, _≤_}
@@ -20,36 +20,7 @@ use Rattle.settings.specs.declared.NamedUnit.{NamedUnit}
 use Rattle.settings.specs.declared.NamedUnit.the-variants.{Unit, None}
 use Rattle.settings.specs.declared.Transition.{Transition}
 use Rattle.settings.specs.declared.Transition.the-variants.{Direct, Between}
-use Rattle.settings.specs.declared.Key.the-variants.{DA, DU, C1, CM, CC, FC, ST, SM}
-use Rattle.settings.specs.Tables.{factoryText}
-use Rattle.settings.specs.Theorems.{FactoryReads, RestoreReads, LongestIs}
-use Rattle.settings.proofs.Open.{settings-open}
-
--- ---- factory values
-
-pub factory-reads : FactoryReads
-unfolding settings-open factoryText
-factory-reads DA = refl
-factory-reads DU = refl
-factory-reads C1 = refl
-factory-reads CM = refl
-factory-reads CC = refl
-factory-reads FC = refl
-factory-reads ST = refl
-factory-reads SM = refl
-
-pub restore-reads : RestoreReads
-unfolding settings-open factoryText
-restore-reads s DA = refl
-restore-reads s DU = refl
-restore-reads s C1 = refl
-restore-reads s CM = refl
-restore-reads s CC = refl
-restore-reads s FC = refl
-restore-reads s ST = refl
-restore-reads s SM = refl
-
--- ---- lengths
+use Rattle.settings.specs.Theorems.{LongestIs}
 
 -- a written number has at most eleven characters
 eleven : (n : Number) → length (writtenOf n) ≤ 11

@@ -1,5 +1,5 @@
 //! An independent implementation of the rules of document 01 and the changes of
-//! document 02 so far (Items 3 and 6), used as the reference that another
+//! document 02 so far (Items 3, 6 and 9), used as the reference that another
 //! implementation is compared with.
 
 pub mod captures;

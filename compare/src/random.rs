@@ -4,12 +4,13 @@
 use crate::opg;
 use crate::replay::{to_hex, World};
 use crate::text::frame::{build_v1, build_v2, checksum, CR};
-use crate::text::gauge::LINE_ROOM;
+use crate::text::profile::Profile;
 use crate::text::request::{read_request, COMMANDS};
 use crate::text::SOURCES;
 use std::collections::VecDeque;
 
 mod lists;
+mod profiles;
 mod writes;
 
 /// An xorshift generator.
@@ -101,11 +102,36 @@ pub struct Generator {
     pub random: Random,
     world: World,
     waiting: VecDeque<String>,
+    /// Whether calls tell profiles and have what the profiles judge differently.
+    profiled: bool,
+    /// Whether they restart on any profile.
+    roams: bool,
+    /// The profile that data are made for: the gauge's, or the one that is told.
+    aim: Profile,
 }
 
 impl Generator {
+    /// Calls of the third profile, which name none.
     pub fn new(seed: u64) -> Generator {
-        Generator { random: Random::new(seed), world: World::start(), waiting: VecDeque::new() }
+        Generator {
+            random: Random::new(seed),
+            world: World::start(),
+            waiting: VecDeque::new(),
+            profiled: false,
+            roams: false,
+            aim: Profile::Third,
+        }
+    }
+
+    /// Calls from the start of a gauge of this profile, which is left only by a
+    /// restart without a name. The readers and the writer are told any profile.
+    pub fn on(profile: Profile, seed: u64) -> Generator {
+        Generator { world: World::start_on(profile), profiled: true, aim: profile, ..Generator::new(seed) }
+    }
+
+    /// Calls from the start of the third profile that restart on any.
+    pub fn on_all(seed: u64) -> Generator {
+        Generator { roams: true, ..Generator::on(Profile::Third, seed) }
     }
 
     /// The next call.
@@ -120,6 +146,10 @@ impl Generator {
 
     /// Puts one call, or a few that belong together, into the queue.
     fn invent(&mut self) {
+        self.aim = self.world.text.profile;
+        if self.profiled && self.random.chance(32) {
+            return self.profile_call();
+        }
         match self.random.below(222) {
             0 => self.push("restart".to_string()),
             1 => self.malformed(),
@@ -222,6 +252,9 @@ impl Generator {
     }
 
     fn transition_text(&mut self) -> String {
+        if self.is_hot(75) {
+            return self.hot_transition_text();
+        }
         let (one, two) = (self.number(&ENDS), self.number(&ENDS));
         match self.random.below(20) {
             0 => format!("F{one}"),
@@ -334,7 +367,7 @@ impl Generator {
     }
 
     fn line_call(&mut self) {
-        let lent = self.lent(LINE_ROOM);
+        let lent = self.lent(self.world.text.profile.line_room());
         self.push(format!("line {lent}"));
     }
 
@@ -434,6 +467,7 @@ impl Generator {
         }
         let data = match self.random.below(10) {
             0..=2 => self.transition_text(),
+            3..=8 if self.is_hot(80) => self.good_hot_transition(),
             3..=5 => self.random.pick(&DIRECT).to_string(),
             6..=8 => self.random.pick(&BETWEEN).to_string(),
             _ => "D1".to_string(),
@@ -446,7 +480,8 @@ impl Generator {
             self.push_text(&build_v2(address, b'4', *b"ST", b""));
         }
         if self.random.chance(30) {
-            let refused = self.random.pick(&NO_TRANSITIONS);
+            let refused =
+                if self.is_hot(70) { self.bad_hot_transition() } else { self.random.pick(&NO_TRANSITIONS).to_string() };
             self.push_text(&build_v2(address, b'2', *b"ST", refused.as_bytes()));
         }
         self.push_text(&read);
@@ -467,7 +502,10 @@ impl Generator {
 
     /// A few restores, then reads of everything, so that what was kept shows.
     fn probe(&mut self) {
-        let address = self.world.text.settings.address;
+        self.push_probe(self.world.text.settings.address);
+    }
+
+    fn push_probe(&mut self, address: u16) {
         for _ in 0..self.random.below(3) {
             let name = self.random.pick(&[b"DU", b"C1", b"CM", b"CC", b"FC", b"ST", b"SM"]);
             self.push_text(&build_v2(address, b'4', *name, b""));
@@ -502,7 +540,8 @@ impl Generator {
         if self.random.chance(70) {
             self.push_text(bytes);
         } else {
-            self.push(format!("request {}", to_hex(bytes)));
+            let told = self.tell();
+            self.push(format!("request {}{told}", to_hex(bytes)));
         }
     }
 
@@ -604,7 +643,8 @@ impl Generator {
             let name = [command.as_bytes()[0], command.as_bytes()[1]];
             (build_v2(address, b'0', name, b""), build_v2(address, b'1', name, data.as_bytes()))
         };
-        self.push(format!("reply {address} {} {}", to_hex(&request), to_hex(&reply)));
+        let told = self.tell();
+        self.push(format!("reply {address} {} {}{told}", to_hex(&request), to_hex(&reply)));
     }
 
     /// Values at the OPG's limits, and the longest request.
@@ -648,9 +688,12 @@ impl Generator {
         self.push(format!("opgreply {} {}", to_hex(&request), to_hex(&reply)));
     }
 
-    /// A list of sources, for each that judges one.
+    /// A list of sources, for one that judges it.
     fn edge_of_list(&mut self) {
         let address = self.world.text.settings.address;
+        if self.profiled {
+            return self.edge_of_list_for_all(address);
+        }
         let data = self.stream_text();
         let write = build_v2(address, b'2', *b"SM", data.as_bytes());
         match self.random.below(4) {
@@ -668,7 +711,7 @@ impl Generator {
         }
     }
 
-    /// Seven values and 71 bytes.
+    /// All the values that the profile has, as long as they get.
     fn longest_line(&mut self) {
         let address = self.world.text.settings.address;
         for source in SOURCES {
@@ -681,16 +724,18 @@ impl Generator {
         }
         let list = self.good_stream_text(6);
         self.push_text(&build_v2(address, b'2', *b"SM", list.as_bytes()));
-        let lent = self.random.pick(&[LINE_ROOM - 1, LINE_ROOM, LINE_ROOM + 1, 256]);
+        let room = self.world.text.profile.line_room();
+        let lent = self.random.pick(&[room - 1, room, room + 1, 256]);
         self.push(format!("line {lent}"));
     }
 
     fn request_call(&mut self) {
+        let told = self.tell();
         let mut request = self.text_request();
         if self.random.chance(25) {
             request = self.damage_text(request);
         }
-        self.push(format!("request {}", to_hex(&request)));
+        self.push(format!("request {}{told}", to_hex(&request)));
     }
 
     /// Damages a frame, with or without a checksum that fits again.
@@ -749,7 +794,7 @@ impl Generator {
         for _ in 0..30 {
             let request = self.text_request();
             let is_read = matches!(request[3], b'0' | b'M' | b'C' | b'U');
-            if read_request(&request).is_ok() && (is_read || !reads_only) {
+            if read_request(self.aim, &request).is_ok() && (is_read || !reads_only) {
                 return request;
             }
         }
@@ -758,6 +803,7 @@ impl Generator {
 
     /// A request, a reply to it, and the reader told some address.
     fn reply_call(&mut self) {
+        let name = self.tell();
         let request = if self.random.chance(93) { self.good_text_request() } else { self.text_request() };
         let mut reply = match self.random.below(10) {
             0..=4 => self.reply_of_gauge(&request),
@@ -775,7 +821,7 @@ impl Generator {
             1 => self.random.below(20),
             _ => usize::from(self.world.text.settings.address),
         };
-        self.push(format!("reply {told} {} {}", to_hex(&request), to_hex(&reply)));
+        self.push(format!("reply {told} {} {}{name}", to_hex(&request), to_hex(&reply)));
     }
 
     /// What the gauge would answer now.

@@ -17,6 +17,11 @@
 //! - `reply` reads the typed request with the request reader; its address is
 //!   not compared with ADDRESS.
 //! - `opgrequest` and `request` print the writer's number (20 and 0).
+//! - `restart`, `request`, `reply` and `write2` may end with a profile's name, `vsh`
+//!   or `vsm`; without one it is the third. In any other line such a word is one
+//!   too many, and any other last word makes a line malformed. A gauge's profile is
+//!   that of the last `restart`, the third before the first; what is told to the
+//!   readers and writers does not depend on it.
 //! - `write2`, `write1` and `writeopg` hand the writer a typed request
 //!   (`typed.rs`), of values that no reader gives too. A number has at most as
 //!   many digits as its limit, leading zeros included.
@@ -26,12 +31,14 @@
 use crate::opg::{self, OpgGauge};
 use crate::text::decimal::Decimal;
 use crate::text::gauge::{BenchValue, TextGauge};
+use crate::text::profile::Profile;
 use crate::text::{self, master, request};
 use crate::typed;
 
 /// The byte that fills the answer memory before each call.
 pub const FILL: u8 = 0xA5;
 
+#[derive(Clone)]
 pub struct World {
     pub text: TextGauge,
     pub opg: OpgGauge,
@@ -39,7 +46,11 @@ pub struct World {
 
 impl World {
     pub fn start() -> World {
-        World { text: TextGauge::start(), opg: OpgGauge::start() }
+        World::start_on(Profile::Third)
+    }
+
+    pub fn start_on(profile: Profile) -> World {
+        World { text: TextGauge::start_on(profile), opg: OpgGauge::start() }
     }
 
     /// Runs a script: what is printed, each line with its LF.
@@ -64,8 +75,8 @@ impl World {
             return None;
         }
         match words[..] {
-            ["restart"] => {
-                *self = World::start();
+            ["restart", ref name @ ..] => {
+                *self = World::start_on(told_profile(name)?);
                 Some("0".to_string())
             }
             ["text", lent, hex] => {
@@ -79,14 +90,20 @@ impl World {
             }
             ["bench", source, value] => Some(self.bench(source, value).to_string()),
             ["opgbench", bits] => Some(self.opg.bench(read_bits(bits)?).to_string()),
-            ["request", hex] => Some(rewrite_text(&read_hex(hex)?)),
+            ["request", hex, ref name @ ..] => Some(rewrite_text(told_profile(name)?, &read_hex(hex)?)),
             ["opgrequest", hex] => Some(rewrite_opg(&read_hex(hex)?)),
-            ["reply", address, request, reply] => {
-                Some(read_text_reply(read_address(address)?, &read_hex(request)?, &read_hex(reply)?))
+            ["reply", address, request, reply, ref name @ ..] => {
+                let (profile, address) = (told_profile(name)?, read_address(address)?);
+                Some(read_text_reply(profile, address, &read_hex(request)?, &read_hex(reply)?))
             }
             ["opgreply", request, reply] => Some(read_opg_reply(&read_hex(request)?, &read_hex(reply)?)),
-            ["write2", lent, address, ref words @ ..] => write_text(lent, address, &typed::v2(words)?),
-            ["write1", lent, address, ref words @ ..] => write_text(lent, address, &typed::v1(words)?),
+            ["write2", lent, address, ref words @ ..] => {
+                let (words, name) = words.split_at(words.len() - named_profiles(words));
+                write_text(told_profile(name)?, lent, address, &typed::v2(words)?)
+            }
+            ["write1", lent, address, ref words @ ..] => {
+                write_text(Profile::Third, lent, address, &typed::v1(words)?)
+            }
             ["writeopg", lent, ref words @ ..] => {
                 let request = typed::opg(words)?;
                 Some(answered(read_lent(lent)?, |memory| opg::write(request, memory)))
@@ -109,6 +126,21 @@ impl World {
     }
 }
 
+/// The profile that a line's last words name: the third where there are none.
+/// None where they are no profile's name.
+fn told_profile(words: &[&str]) -> Option<Profile> {
+    match words {
+        [] => Some(Profile::Third),
+        [name] => Profile::named(name),
+        _ => None,
+    }
+}
+
+/// How many words at the end are a profile's name: one or none.
+pub fn named_profiles(words: &[&str]) -> usize {
+    usize::from(words.last().is_some_and(|word| Profile::named(word).is_some()))
+}
+
 /// The lines between the LFs; an unfinished last one counts unless empty.
 pub fn lines_of(bytes: &[u8]) -> Vec<&[u8]> {
     let mut lines: Vec<&[u8]> = bytes.split(|byte| *byte == b'\n').collect();
@@ -128,15 +160,15 @@ fn answered(lent: usize, call: impl FnOnce(&mut [u8]) -> (u16, usize)) -> String
 }
 
 /// Writes a typed request of V2 or V1.
-fn write_text(lent: &str, address: &str, request: &request::Request) -> Option<String> {
+fn write_text(profile: Profile, lent: &str, address: &str, request: &request::Request) -> Option<String> {
     let address = read_address(address)?;
-    Some(answered(read_lent(lent)?, |memory| master::write(address, request, memory)))
+    Some(answered(read_lent(lent)?, |memory| master::write(profile, address, request, memory)))
 }
 
-fn rewrite_text(bytes: &[u8]) -> String {
-    match request::read_request(bytes) {
+fn rewrite_text(profile: Profile, bytes: &[u8]) -> String {
+    match request::read_request(profile, bytes) {
         Ok((address, request)) => answered(master::WRITER_ROOM, |memory| {
-            master::write(u32::from(address), &request, memory)
+            master::write(profile, u32::from(address), &request, memory)
         }),
         Err(number) => format!("{number} 0 -"),
     }
@@ -150,10 +182,10 @@ fn rewrite_opg(bytes: &[u8]) -> String {
 }
 
 /// Reads a text reply with the reader of the request's kind.
-fn read_text_reply(told: u32, request: &[u8], reply: &[u8]) -> String {
-    let read = request::read_request(request).and_then(|(_, request)| {
+fn read_text_reply(profile: Profile, told: u32, request: &[u8], reply: &[u8]) -> String {
+    let read = request::read_request(profile, request).and_then(|(_, request)| {
         if request.command().is_some() {
-            master::read_v2_reply(told, &request, reply)
+            master::read_v2_reply(profile, told, &request, reply)
         } else {
             master::read_v1_reply(told, &request, reply)
         }

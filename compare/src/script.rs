@@ -14,10 +14,14 @@
 //!
 //! Each call is lent the next part of the memory. The play ends where no whole
 //! call is left, or too little memory for it, or no place for its answer.
+//!
+//! A play can be on a profile, by its number: 0 the third, 1 VSH, 2 VSM. Any other
+//! number makes no call and writes nothing. Where none is named it is the third.
 
 use crate::opg::OpgGauge;
 use crate::text::decimal::Decimal;
 use crate::text::gauge::{BenchValue, TextGauge};
+use crate::text::profile::Profile;
 
 /// What a script is played on.
 pub struct Gauges {
@@ -63,9 +67,22 @@ pub fn by_gauge(script: &[u8], made: usize) -> (usize, usize) {
     (text, made - text)
 }
 
+/// Plays a script on a text gauge of the profile with this number, and an OPG: how
+/// many calls were made.
+pub fn play_on(profile: u8, script: &[u8], memory: &mut [u8], numbers: &mut [u16], lens: &mut [u16]) -> usize {
+    match Profile::with_number(profile) {
+        Some(profile) => Gauges::start_on(profile).play(script, memory, numbers, lens),
+        None => 0,
+    }
+}
+
 impl Gauges {
     pub fn start() -> Self {
-        Gauges { text: TextGauge::start(), opg: OpgGauge::start() }
+        Gauges::start_on(Profile::Third)
+    }
+
+    pub fn start_on(profile: Profile) -> Self {
+        Gauges { text: TextGauge::start_on(profile), opg: OpgGauge::start() }
     }
 
     /// Plays a script: how many calls were made.
@@ -98,20 +115,25 @@ impl Gauges {
     }
 
     fn bench(&mut self, call: &[u8]) -> u16 {
-        let (which, code) = (call[1], call[2]);
-        let value = match which {
-            0 => {
-                let power = i32::from(call[8]) - i32::from(call[9]);
-                BenchValue::Number(Decimal::new(call[3] != 0, u64::from(word(&call[4..8])), power))
-            }
-            1 => BenchValue::Under,
-            2 => BenchValue::Over,
-            3 => BenchValue::Faulty,
-            _ => BenchValue::Number(Decimal::whole(u64::from(code))),
-        };
-        let source = if which == 4 { "FS" } else { source_of(code) };
+        let (source, value) = bench_of(call);
         self.text.bench(source, value)
     }
+}
+
+/// What a bench setting of the text gauge sets, and to what.
+pub fn bench_of(call: &[u8]) -> (&'static str, BenchValue) {
+    let (which, code) = (call[1], call[2]);
+    let value = match which {
+        0 => {
+            let power = i32::from(call[8]) - i32::from(call[9]);
+            BenchValue::Number(Decimal::new(call[3] != 0, u64::from(word(&call[4..8])), power))
+        }
+        1 => BenchValue::Under,
+        2 => BenchValue::Over,
+        3 => BenchValue::Faulty,
+        _ => BenchValue::Number(Decimal::whole(u64::from(code))),
+    };
+    (if which == 4 { "FS" } else { source_of(code) }, value)
 }
 
 /// The name of a source's code; a code that has none gets a name that no

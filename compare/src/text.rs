@@ -4,6 +4,7 @@ pub mod decimal;
 pub mod frame;
 pub mod gauge;
 pub mod master;
+pub mod profile;
 pub mod request;
 
 /// The answer numbers of the text gauge and of the text readers.
@@ -30,6 +31,7 @@ pub const ERROR_TEXTS: [&str; 6] = ["LENGTH", "_LOGIC", "NO_DEF", "SYNTAX", "_RA
 /// The sources of readings; a source is its place in this list.
 pub const SOURCES: [&str; 7] = ["0", "1", "2", "6", "7", "T2", "T6"];
 pub const SOURCE_0: usize = 0;
+pub const SOURCE_1: usize = 1;
 pub const SOURCE_7: usize = 4;
 pub const SOURCE_T2: usize = 5;
 pub const SOURCE_T6: usize = 6;

@@ -2,10 +2,9 @@
 //! here without their CR; their bytes were worked out apart from the programs.
 
 use compare::met::{self, Met};
-use compare::random::{Generator, Random};
+use compare::random::Generator;
 use compare::replay::{to_hex, World};
-use compare::script::{by_gauge, Gauges};
-use compare::sequence::{sequence_of, MOST_CALLS};
+use compare::text::profile::Profile;
 use compare::text::request::read_sm;
 use compare::text::SOURCES;
 use std::collections::BTreeSet;
@@ -193,7 +192,7 @@ fn every_short_list() {
             let different: BTreeSet<&&str> = list.iter().chain(&["0"]).collect();
             let good = different.len() == list.len() + 1;
             let data = list.iter().fold("4".to_string(), |data, source| data + "D" + source);
-            assert_eq!(read_sm(data.as_bytes()).err(), if good { None } else { Some(12) }, "{data}");
+            assert_eq!(read_sm(Profile::Third, data.as_bytes()).err(), if good { None } else { Some(12) }, "{data}");
             assert!(!good || count <= 6, "{data}");
         }
     }
@@ -203,7 +202,7 @@ fn every_short_list() {
 /// and of read of ST.
 #[test]
 fn random_lines_meet_each_kind() {
-    let mut generator = Generator::new(1);
+    let mut generator = Generator::on_all(1);
     let script = (0..50_000).map(|_| generator.call() + "\n").collect::<String>();
     assert_eq!(Met::in_lines(script.as_bytes()).missing(&met::JUDGES), [""; 0]);
 }
@@ -211,23 +210,5 @@ fn random_lines_meet_each_kind() {
 /// So do sequences for the static library, by the judges that it has.
 #[test]
 fn sequences_meet_each_kind() {
-    let (mut met, mut random) = (Met::default(), Random::new(1));
-    let mut made = (0, 0);
-    for seed in 1.. {
-        if made.0 >= 50_000 && made.1 >= 50_000 {
-            break;
-        }
-        let sequence = sequence_of(seed, &mut random);
-        let (mut memory, mut numbers) = (vec![0; MOST_CALLS * 260], [0; MOST_CALLS * 2]);
-        let mut lens = numbers;
-        let calls = Gauges::start().play(&sequence.script, &mut memory, &mut numbers, &mut lens);
-        met.play(&sequence.script, &memory, &numbers[..calls], &lens[..calls]);
-        for request in sequence.requests {
-            let call = format!("request {}", to_hex(&request));
-            met.call(&call, &World::start().run(&call));
-        }
-        let (text, opg) = by_gauge(&sequence.script, calls);
-        made = (made.0 + text, made.1 + opg);
-    }
-    assert_eq!(met.missing(&met::IN_LIBRARY), [""; 0]);
+    assert_eq!(Met::in_sequences(1, 50_000).missing(&met::IN_LIBRARY), [""; 0]);
 }

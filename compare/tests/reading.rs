@@ -6,6 +6,7 @@ use compare::opg;
 use compare::replay::{to_hex, World};
 use compare::text::decimal::Decimal;
 use compare::text::master::{self, Reply, Value};
+use compare::text::profile::Profile;
 use compare::text::request::{Command, Request, Stream, Transition, COMMANDS};
 use compare::text::{source_named, Unit};
 use std::sync::LazyLock;
@@ -305,7 +306,7 @@ fn c5_text_writer() {
         let bytes = frame(answer.trim()[number.len()..].trim_start().split("     ").next().unwrap());
         let request = typed(&name.split_whitespace().collect::<Vec<_>>());
         let mut memory = vec![0xA5; lent.trim().parse().unwrap()];
-        let (got, length) = master::write(address.trim().parse().unwrap(), &request, &mut memory);
+        let (got, length) = master::write(Profile::Third, address.trim().parse().unwrap(), &request, &mut memory);
         assert_eq!((got.to_string().as_str(), &memory[..length]), (number, &bytes[..]), "{}", case[0]);
         assert!(memory[length..].iter().all(|byte| *byte == 0xA5), "{}", case[0]);
     }
@@ -360,7 +361,7 @@ fn c6_v2_reply_reader() {
             _ => (Request::Read(command(name.strip_prefix("read ").unwrap())), 1),
         };
         let answer = if answer.starts_with("accepted") { answer } else { first_number(answer) };
-        assert_eq!(outcome(master::read_v2_reply(told, &request, &bytes)), answer, "{}", case[0]);
+        assert_eq!(outcome(master::read_v2_reply(Profile::Third, told, &request, &bytes)), answer, "{}", case[0]);
     }
 }
 

@@ -8,6 +8,7 @@ use compare::text::decimal::Decimal;
 use compare::text::frame::{self, build_v1, build_v2, checksum};
 use compare::text::gauge::Settings;
 use compare::text::master::{read_v1_reply, read_v2_reply, write, Reply, Value};
+use compare::text::profile::Profile;
 use compare::text::request::{read_request, Command, Request, Stream};
 use compare::text::SOURCE_0;
 use std::collections::BTreeSet;
@@ -46,7 +47,7 @@ fn crc_check_value() {
 fn the_nine_marked_rows() {
     let mut world = World::start();
     // Read MV.
-    assert_eq!(read_request(&framed("0010MV00D")), Ok((1, Request::Read(Command::Mv))));
+    assert_eq!(read_request(Profile::Third, &framed("0010MV00D")), Ok((1, Request::Read(Command::Mv))));
     assert_eq!(text(&mut world, &framed("0010MV00D")), reply(0, &framed("0011MV031e0N")));
     // 982.1 mbar.
     let reading = Reply::Value(Value::V1Reading { mantissa: 9821, exponent: 2 });
@@ -57,7 +58,7 @@ fn the_nine_marked_rows() {
     assert_eq!(frame::close(b"9.734e2".to_vec()), framed("9.734e2\\"));
     // Three values.
     let list = Stream { mode: 4, list: vec![4, 5] };
-    assert_eq!(read_request(&framed("0012SM064D7DT2B")), Ok((1, Request::SetSm(list))));
+    assert_eq!(read_request(Profile::Third, &framed("0012SM064D7DT2B")), Ok((1, Request::SetSm(list))));
     text(&mut world, &framed("0012SM064D7DT2B"));
     for call in ["bench 0 973.4", "bench 7 0.1", "bench T2 23.25"] {
         assert_eq!(world.run(call), "0");
@@ -69,7 +70,8 @@ fn the_nine_marked_rows() {
     assert_eq!(text(&mut world, &framed("0012CC010Z")), reply(12, &framed("0017CC06_LOGICA")));
     assert_eq!(text(&mut world, &framed("001C1E")), reply(0, &framed("001C000100u")));
     let factor = Ok(Reply::Value(Value::Factor(100)));
-    assert_eq!(read_v2_reply(1, &Request::Read(Command::C1), &framed("0011C1041.00Y")), factor);
+    let read = Request::Read(Command::C1);
+    assert_eq!(read_v2_reply(Profile::Third, 1, &read, &framed("0011C1041.00Y")), factor);
     assert_eq!(read_v1_reply(1, &Request::V1Factor, &framed("001C000100u")), factor);
     // The OPG's pressure query and write done.
     let query = bytes_of("00 00 20 00 06 01 36 B0 00 00 00 21 D5");
@@ -220,23 +222,24 @@ fn script_answers_of_the_readers() {
 
 /// A refused call leaves no trace, a silent one no byte; an accepted
 /// request, written and read again, is the same; the list and the line keep
-/// their bounds.
+/// their bounds. No call but a restart changes the profile.
 #[test]
 fn laws_on_random_calls() {
     for seed in 1..=4 {
-        let mut generator = Generator::new(seed);
+        let mut generator = Generator::on_all(seed);
         let mut world = World::start();
         for _ in 0..20_000 {
             let line = generator.call();
             let before = (world.text.clone(), world.opg.clone());
             let out = world.run(&line);
             assert!(!out.ends_with("changed"), "{line}");
+            assert!(line.starts_with("restart") || world.text.profile == before.0.profile, "{line}");
             check_trace(&line, &out, &before.0.settings, &world);
-            check_list(&world.text.settings.stream);
+            check_list(world.text.profile, &world.text.settings.stream);
             if line.starts_with("opg ") && !out.starts_with("20 ") {
                 assert_eq!(world.opg, before.1, "{line}");
             }
-            check_bounds(&line, &out);
+            check_bounds(world.text.profile, &line, &out);
             check_round_trip(&line);
         }
     }
@@ -244,7 +247,8 @@ fn laws_on_random_calls() {
 
 fn check_trace(line: &str, out: &str, before: &Settings, world: &World) {
     let refused_text = line.starts_with("text ") && !out.starts_with("0 ");
-    if refused_text || !(line.starts_with("text ") || line == "restart") {
+    let restarted = line.starts_with("restart") && out == "0";
+    if refused_text || !(line.starts_with("text ") || restarted) {
         assert_eq!(&world.text.settings, before, "{line}");
     }
     let number: u16 = out.split(' ').next().unwrap().parse().unwrap_or(0);
@@ -253,32 +257,36 @@ fn check_trace(line: &str, out: &str, before: &Settings, world: &World) {
     }
 }
 
-/// At most six sources, no source twice, no `0`; none while the mode is 0.
-fn check_list(stream: &Stream) {
+/// Sources of the profile, none twice, no `0`; none while the mode is 0.
+fn check_list(profile: Profile, stream: &Stream) {
     let different: BTreeSet<&usize> = stream.list.iter().collect();
-    assert!(stream.list.len() <= 6 && different.len() == stream.list.len(), "{stream:?}");
+    let most = if profile == Profile::Third { 6 } else { 2 };
+    assert!(stream.list.len() <= most && different.len() == stream.list.len(), "{stream:?}");
+    assert!(stream.list.iter().all(|source| profile.offers(*source)), "{stream:?}");
     assert!(!stream.list.contains(&SOURCE_0) && (stream.mode == 4 || stream.list.is_empty()), "{stream:?}");
 }
 
-fn check_bounds(line: &str, out: &str) {
+fn check_bounds(profile: Profile, line: &str, out: &str) {
     let length: usize = out.split(' ').nth(1).and_then(|word| word.parse().ok()).unwrap_or(0);
     match line.split(' ').next() {
         // ST with F and T is the longest reply.
         Some("text") => assert!(length <= 30, "{line}"),
-        Some("line") => assert!(length <= 71, "{line}"),
+        Some("line") => assert!(length <= if profile == Profile::Third { 71 } else { 30 }, "{line}"),
         Some("opg") => assert!(length <= 16, "{line}"),
         _ => (),
     }
 }
 
 fn check_round_trip(line: &str) {
-    let Some(bytes) = line.strip_prefix("request ").and_then(read_hex) else {
+    let mut words = line.strip_prefix("request ").unwrap_or_default().split(' ');
+    let Some(bytes) = words.next().and_then(read_hex) else {
         return;
     };
-    if let Ok((address, request)) = read_request(&bytes) {
+    let profile = words.next().and_then(Profile::named).unwrap_or_default();
+    if let Ok((address, request)) = read_request(profile, &bytes) {
         let mut memory = [0; 109];
-        let (number, length) = write(u32::from(address), &request, &mut memory);
+        let (number, length) = write(profile, u32::from(address), &request, &mut memory);
         assert_eq!(number, 0, "{line}");
-        assert_eq!(read_request(&memory[..length]), Ok((address, request)), "{line}");
+        assert_eq!(read_request(profile, &memory[..length]), Ok((address, request)), "{line}");
     }
 }

@@ -1,5 +1,5 @@
 //! The answers that the gate expects of the proved `replay` are the reference's,
-//! byte for byte, and its script meets each kind of list, of line and of read of ST.
+//! byte for byte, and its script meets each kind of `met.rs`, on each profile.
 
 use compare::met::{Met, JUDGES};
 use compare::replay::{lines_of, World};
@@ -20,5 +20,7 @@ fn stored_answers_are_the_references() {
 
 #[test]
 fn stored_script_meets_each_kind() {
-    assert_eq!(Met::in_lines(&stored("stdin")).missing(&JUDGES), [""; 0]);
+    let met = Met::in_lines(&stored("stdin"));
+    assert_eq!(met.missing(&JUDGES), [""; 0]);
+    assert_eq!(met.missing_of_profiles(&JUDGES), [""; 0]);
 }

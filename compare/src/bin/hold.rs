@@ -1,7 +1,8 @@
 //! `hold [CALLS [SEED]]` holds the proved gauges, request readers and writers
 //! and the CRC to the reference, on at least CALLS random and damaged calls of
 //! each gauge (a million where none is given). Each sequence begins at factory
-//! settings; numbers, lengths and every byte of the lent memory are compared.
+//! settings, on one of the three profiles; numbers, lengths and every byte of the
+//! lent memory are compared.
 //! Then it holds the program `replay` to the reference on CALLS random lines,
 //! byte for byte: so the reply readers and the writers' own refusals too.
 //! Where a part is missing, or nothing of a part was compared, it fails.
@@ -14,7 +15,8 @@ use compare::opg;
 use compare::random::{Generator, Random};
 use compare::replay::{lines_of, to_hex, World};
 use compare::script::{self, Gauges};
-use compare::sequence::{sequence_of, Sequence, MOST_CALLS};
+use compare::sequence::{sequence_of, Sequence, Way, MOST_CALLS, WAYS};
+use compare::text::profile::{Profile, PROFILES};
 use compare::text::{master, request};
 use std::collections::BTreeMap;
 use std::fmt::Display;
@@ -34,11 +36,15 @@ struct Counts {
     crcs: usize,
     lines: usize,
     disagreements: usize,
+    /// How many calls were made on the profile of each number, and without one.
+    played: BTreeMap<Way, usize>,
+    /// How many scripts with a call were refused for a number of no profile.
+    refused: usize,
     /// How often each number was answered.
     numbers: BTreeMap<u16, usize>,
     /// How often a typed request got each number, by `replay`.
     written: BTreeMap<u16, usize>,
-    /// The kinds of lists, of lines and of reads of ST that its lines met.
+    /// The kinds (`met.rs`) that its lines met.
     met: Met,
     /// Those that the calls of the static library met.
     met_in_library: Met,
@@ -46,8 +52,7 @@ struct Counts {
 
 /// The numbers that a writer answers.
 const WRITTEN: [u16; 10] = [0, 1, 4, 9, 10, 11, 12, 20, 21, 1002];
-/// From so many calls on, each of them is to come up, and each kind of list, of
-/// line and of read of ST.
+/// From so many calls on, each of them is to come up, and each kind of `met.rs`.
 const ENOUGH: usize = 50_000;
 /// The fewest lines that `replay` plays.
 const FEWEST: usize = 2000;
@@ -67,10 +72,11 @@ fn main() {
     }
     let mut counts = Counts::default();
     let mut random = Random::new(first_seed);
-    while counts.text < least || counts.opg < least {
+    while counts.text < least || counts.opg < least || counts.sequences < WAYS {
         let seed = first_seed + counts.sequences as u64;
-        let sequence = sequence_of(seed, &mut random);
-        hold(&mut counts, &mut random, seed, sequence);
+        let way = Way::at(counts.sequences, &mut random);
+        let sequence = sequence_of(way.profile().unwrap_or_default(), seed, &mut random);
+        hold(&mut counts, &mut random, seed, way, sequence);
         counts.sequences += 1;
     }
     if let Err(error) = hold_replay(&mut counts, program, first_seed, least.max(FEWEST)) {
@@ -96,15 +102,34 @@ fn asked() -> Option<(u64, u64)> {
 fn report(counts: &Counts) {
     println!("sequences from factory settings: {}", counts.sequences);
     println!("calls of the text gauge: {}; of the OPG: {}", counts.text, counts.opg);
+    println!("calls {}; scripts refused for their profile: {}", by_way(counts), counts.refused);
     println!("answers by number: {}", listed(&counts.numbers));
     println!("text requests read and written again: {}", counts.requests);
     println!("OPG requests read and written again: {}", counts.opg_requests);
     println!("CRCs: {}", counts.crcs);
     println!("lines of scripts, by the program replay: {}", counts.lines);
     println!("typed requests written, by number: {}", listed(&counts.written));
-    println!("lists of sources, lines and reads of ST, by replay: {}", counts.met.summary());
-    println!("lists of sources, lines and reads of ST, by the static library: {}", counts.met_in_library.summary());
+    println!("kinds of calls, by replay: {}", counts.met.summary());
+    println!("kinds of calls, by the static library: {}", counts.met_in_library.summary());
     println!("disagreements: {}", counts.disagreements);
+}
+
+/// The ways to play on a profile.
+fn ways() -> impl Iterator<Item = Way> {
+    std::iter::once(Way::Unnamed).chain(PROFILES.map(|profile| Way::On(profile.number())))
+}
+
+fn name_of(way: Way) -> String {
+    match way {
+        Way::Unnamed => "without a profile".to_string(),
+        Way::On(number) => format!("on profile {number}"),
+    }
+}
+
+/// How many calls were made in each way.
+fn by_way(counts: &Counts) -> String {
+    let each: Vec<String> = counts.played.iter().map(|(way, calls)| format!("{}: {calls}", name_of(*way))).collect();
+    each.join(", ")
 }
 
 /// Whether something of each part was compared; says what was not.
@@ -117,14 +142,20 @@ fn all_compared(counts: &Counts, least: usize) -> bool {
         ("CRCs", counts.crcs),
         ("lines of replay", counts.lines),
         ("typed requests", counts.written.values().sum()),
+        ("scripts for a number of no profile", counts.refused),
     ];
     let mut missing: Vec<String> =
         parts.iter().filter(|(_, count)| *count == 0).map(|(part, _)| part.to_string()).collect();
+    let unplayed = ways().filter(|way| counts.played.get(way).is_none_or(|calls| *calls == 0));
+    missing.extend(unplayed.map(|way| format!("calls {}", name_of(way))));
     if least >= ENOUGH {
         let absent = WRITTEN.iter().filter(|number| !counts.written.contains_key(number));
         missing.extend(absent.map(|number| format!("a writer's {number}")));
-        missing.extend(met_not(&counts.met, &met::JUDGES, "replay"));
-        missing.extend(met_not(&counts.met_in_library, &met::IN_LIBRARY, "the static library"));
+        missing.extend(met_not(counts.met.missing(&met::JUDGES), "replay"));
+        missing.extend(met_not(counts.met.missing_of_profiles(&met::JUDGES), "replay"));
+        let met = &counts.met_in_library;
+        missing.extend(met_not(met.missing(&met::IN_LIBRARY), "the static library"));
+        missing.extend(met_not(met.missing_of_profiles(&met::TOLD_IN_LIBRARY), "the static library"));
     }
     for part in &missing {
         println!("not compared: {part}");
@@ -133,15 +164,15 @@ fn all_compared(counts: &Counts, least: usize) -> bool {
 }
 
 /// The kinds that a part was not held to.
-fn met_not(met: &Met, judges: &[&str], part: &str) -> Vec<String> {
-    met.missing(judges).iter().map(|kind| format!("{kind}, by {part}")).collect()
+fn met_not(missing: Vec<String>, part: &str) -> Vec<String> {
+    missing.iter().map(|kind| format!("{kind}, by {part}")).collect()
 }
 
 /// Plays random lines on the program and on the reference. What is printed is
 /// compared as bytes, to the last one, and nothing may be said of a failure.
 /// Under an even seed the last line has no LF.
 fn hold_replay(counts: &mut Counts, program: &str, seed: u64, lines: usize) -> io::Result<()> {
-    let mut generator = Generator::new(seed);
+    let mut generator = Generator::on_all(seed);
     let mut script = (0..lines).map(|_| generator.call()).collect::<Vec<String>>().join("\n").into_bytes();
     if seed % 2 == 1 {
         script.push(b'\n');
@@ -189,13 +220,13 @@ fn listed(counts: &BTreeMap<impl Display, usize>) -> String {
     each.join(", ")
 }
 
-fn hold(counts: &mut Counts, random: &mut Random, seed: u64, sequence: Sequence) {
-    let agree = same_play(counts, random, &sequence.script);
-    note(counts, agree, || format!("sequence {seed}"));
+fn hold(counts: &mut Counts, random: &mut Random, seed: u64, way: Way, sequence: Sequence) {
+    let agree = same_play(counts, random, way, &sequence.script);
+    note(counts, agree, || format!("sequence {seed}, {}", name_of(way)));
     for request in &sequence.requests {
         let number = same_call(random, master::WRITER_ROOM, |out| proved::rewrite_text(request, out), |out| {
-            match request::read_request(request) {
-                Ok((address, typed)) => master::write(u32::from(address), &typed, out),
+            match request::read_request(Profile::Third, request) {
+                Ok((address, typed)) => master::write(Profile::Third, u32::from(address), &typed, out),
                 Err(number) => (number, 0),
             }
         });
@@ -230,12 +261,13 @@ fn note(counts: &mut Counts, agree: bool, what: impl FnOnce() -> String) {
     }
 }
 
-/// Plays a script, now and then damaged, on both: whether everything agrees.
-fn same_play(counts: &mut Counts, random: &mut Random, script: &[u8]) -> bool {
+/// Plays a script, now and then damaged, on both: whether everything agrees. What
+/// a number of no profile refuses is whole.
+fn same_play(counts: &mut Counts, random: &mut Random, way: Way, script: &[u8]) -> bool {
     let mut script = script.to_vec();
     let mut room = MOST_CALLS * 260;
     let mut places = (MOST_CALLS * 2, MOST_CALLS * 2);
-    if random.chance(10) {
+    if way.profile().is_some() && random.chance(10) {
         match random.below(5) {
             0 => script.truncate(random.below(script.len() + 1)),
             1 if !script.is_empty() => {
@@ -251,8 +283,14 @@ fn same_play(counts: &mut Counts, random: &mut Random, script: &[u8]) -> bool {
     let (mut here, mut there) = (old.clone(), old);
     let (mut numbers, mut lens) = (vec![7777u16; places.0], vec![8888u16; places.1]);
     let (mut numbers_there, mut lens_there) = (numbers.clone(), lens.clone());
-    let calls = proved::play(&script, &mut here, &mut numbers, &mut lens);
-    let calls_there = Gauges::start().play(&script, &mut there, &mut numbers_there, &mut lens_there);
+    let calls = match way {
+        Way::Unnamed => proved::play(&script, &mut here, &mut numbers, &mut lens),
+        Way::On(number) => proved::play_on(number, &script, &mut here, &mut numbers, &mut lens),
+    };
+    let calls_there = match way {
+        Way::Unnamed => Gauges::start().play(&script, &mut there, &mut numbers_there, &mut lens_there),
+        Way::On(number) => script::play_on(number, &script, &mut there, &mut numbers_there, &mut lens_there),
+    };
     let agree = calls == calls_there && here == there && numbers == numbers_there && lens == lens_there;
     for number in &numbers[..calls] {
         *counts.numbers.entry(*number).or_default() += 1;
@@ -260,8 +298,13 @@ fn same_play(counts: &mut Counts, random: &mut Random, script: &[u8]) -> bool {
     let (text, opg) = script::by_gauge(&script, calls);
     counts.text += text;
     counts.opg += opg;
+    match way.profile() {
+        Some(_) => *counts.played.entry(way).or_default() += calls,
+        None => counts.refused += usize::from(script::calls(&script).next().is_some()),
+    }
     if agree {
-        counts.met_in_library.play(&script, &there, &numbers[..calls], &lens[..calls]);
+        let profile = way.profile().unwrap_or_default();
+        counts.met_in_library.play(profile, &script, &there, &numbers[..calls], &lens[..calls]);
     } else {
         explain((calls, &numbers, &lens, &here), (calls_there, &numbers_there, &lens_there, &there));
     }

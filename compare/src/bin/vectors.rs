@@ -9,7 +9,7 @@ fn main() -> io::Result<()> {
         eprintln!("usage: vectors SEED COUNT");
         std::process::exit(2);
     };
-    let mut generator = Generator::new(seed);
+    let mut generator = Generator::on_all(seed);
     let mut script = String::new();
     for _ in 0..count {
         script.push_str(&generator.call());

@@ -7,7 +7,7 @@ use crate::text::SOURCES;
 /// Texts of a source's form that name none.
 const UNKNOWN: [&str; 8] = ["07", "00", "3", "4", "40", "99", "T1", "T0"];
 /// Texts without that form.
-const MALFORMED: [&str; 7] = ["T", "123", "", "TT", "d7", "T22", "7T"];
+pub(super) const MALFORMED: [&str; 7] = ["T", "123", "", "TT", "d7", "T22", "7T"];
 /// The codes that name no source.
 const UNKNOWN_CODES: [u8; 7] = [3, 4, 5, 10, 48, 84, 255];
 /// The sources of one digit; 49 of them fill the data of a frame.
@@ -38,9 +38,10 @@ impl Generator {
         text
     }
 
-    /// Data that SM takes: the list has so many sources.
+    /// Data that SM takes: the list has so many sources, or all that it can have.
     pub(super) fn good_stream_text(&mut self, count: usize) -> String {
-        format!("4{}", entries(&self.different(count)))
+        let offered = self.listed();
+        format!("4{}", entries(&self.different_of(offered, count)))
     }
 
     /// The mode, the count and the seven codes of a typed list. Those past the
@@ -58,6 +59,11 @@ impl Generator {
             1 => self.random.below(8),
             _ => list.len(),
         };
+        self.list_words(mode, count, &list)
+    }
+
+    /// The words of a typed list that has these sources first.
+    pub(super) fn list_words(&mut self, mode: &str, count: usize, list: &[&str]) -> String {
         let mut words = format!("{mode} {count}");
         for at in 0..7 {
             let code = match list.get(at) {
@@ -121,20 +127,31 @@ impl Generator {
         (mode, list)
     }
 
-    /// So many different sources in any order, and no `0`.
+    /// So many different sources in any order, and no `0`. For VSH and VSM they are
+    /// mostly among those that they have.
     fn different(&mut self, count: usize) -> Vec<&'static str> {
-        let mut rest = SOURCES[1..].to_vec();
-        (0..count).map(|_| rest.swap_remove(self.random.below(rest.len()))).collect()
+        let rest = if self.is_hot(65) { self.listed() } else { SOURCES[1..].to_vec() };
+        self.different_of(rest, count)
+    }
+
+    /// So many of these, or all of them, in any order.
+    pub(super) fn different_of(&mut self, mut rest: Vec<&'static str>, count: usize) -> Vec<&'static str> {
+        (0..count.min(rest.len())).map(|_| rest.swap_remove(self.random.below(rest.len()))).collect()
+    }
+
+    /// The sources that a list can have on the profile that is aimed at.
+    pub(super) fn listed(&self) -> Vec<&'static str> {
+        self.aim.sources()[1..].iter().map(|source| SOURCES[*source]).collect()
     }
 
     /// One more entry, at any place.
-    fn put(&mut self, list: &mut Vec<&'static str>, source: &'static str) {
+    pub(super) fn put(&mut self, list: &mut Vec<&'static str>, source: &'static str) {
         let at = self.random.below(list.len() + 1);
         list.insert(at, source);
     }
 
     /// One of the entries once more.
-    fn put_repeat(&mut self, list: &mut Vec<&'static str>) {
+    pub(super) fn put_repeat(&mut self, list: &mut Vec<&'static str>) {
         if !list.is_empty() {
             let source = self.random.pick(list);
             self.put(list, source);
@@ -153,6 +170,6 @@ impl Generator {
 }
 
 /// The entries of a list as text.
-fn entries(list: &[&str]) -> String {
+pub(super) fn entries(list: &[&str]) -> String {
     list.iter().map(|source| format!("D{source}")).collect()
 }

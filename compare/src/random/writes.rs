@@ -6,8 +6,9 @@ use crate::text::request::COMMANDS;
 impl Generator {
     /// A typed request of one of the three kinds; a few lines are no call.
     pub(super) fn write_call(&mut self) {
+        let told = self.tell();
         let line = match self.random.below(10) {
-            0..=5 => format!("write2 {} {} {}", self.lent(109), self.told_address(), self.v2_words()),
+            0..=5 => format!("write2 {} {} {}{told}", self.lent(109), self.told_address(), self.v2_words()),
             6..=7 => format!("write1 {} {} {}", self.lent(109), self.told_address(), self.v1_words()),
             _ => format!("writeopg {} {}", self.lent(32), self.opg_words()),
         };
@@ -53,8 +54,11 @@ impl Generator {
     }
 
     /// SIGN MANTISSA PLACE: one to ten digits, mostly so placed that the value
-    /// lies about 1 to 20.
+    /// lies about 1 to 20, or about the limits of VSH and VSM.
     fn st_number(&mut self) -> String {
+        if self.is_hot(75) {
+            return self.hot_number_words();
+        }
         let mantissa: u32 = match self.random.below(8) {
             0 => self.random.pick(&[0, 1, 2, 5, 10, 20, 21, 199_999, 200_000, 200_001, 999_999, 1_000_000, u32::MAX]),
             1 => self.random.next() as u32,

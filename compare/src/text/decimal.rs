@@ -21,7 +21,7 @@ pub const LOWEST_PLACE: i32 = -9;
 pub const HIGHEST_PLACE: i32 = 9;
 
 impl Decimal {
-    pub fn new(negative: bool, digits: u64, power: i32) -> Decimal {
+    pub const fn new(negative: bool, digits: u64, power: i32) -> Decimal {
         if digits == 0 {
             return Decimal { negative: false, digits: 0, power: 0 };
         }
@@ -33,7 +33,7 @@ impl Decimal {
         Decimal { negative, digits, power }
     }
 
-    pub fn whole(number: u64) -> Decimal {
+    pub const fn whole(number: u64) -> Decimal {
         Decimal::new(false, number, 0)
     }
 
@@ -135,9 +135,8 @@ impl Decimal {
     }
 
     /// Is the value from low to high, both included?
-    pub fn within(self, low: u64, high: u64) -> bool {
-        self.compare(Decimal::whole(low)) != Ordering::Less
-            && self.compare(Decimal::whole(high)) != Ordering::Greater
+    pub fn within(self, low: Decimal, high: Decimal) -> bool {
+        self.compare(low) != Ordering::Less && self.compare(high) != Ordering::Greater
     }
 
     /// The value in hundredths, if it is a whole number of them and not huge.

@@ -2,6 +2,7 @@
 
 use super::decimal::{two_decimals, Decimal, MOST_DIGITS};
 use super::frame::{self, Frame};
+use super::profile::Profile;
 use super::request::{read_v1_form, read_v2, Command, Request, Stream, Transition};
 use super::*;
 use crate::place;
@@ -21,7 +22,7 @@ pub struct Settings {
 }
 
 impl Settings {
-    pub fn factory() -> Settings {
+    pub fn factory(profile: Profile) -> Settings {
         Settings {
             address: 1,
             unit: Unit::Mbar,
@@ -29,7 +30,7 @@ impl Settings {
             cm: 1,
             cc: 1,
             fc: 0,
-            transition: Transition::Direct(Decimal::whole(1)),
+            transition: profile.factory_transition(),
             stream: Stream { mode: 0, list: Vec::new() },
         }
     }
@@ -69,14 +70,14 @@ pub enum BenchValue {
 }
 
 pub const LEAST_ROOM: usize = 64;
-/// The longest line: sources 0, 1, 2 and 6, then 7, T2 and T6, six `;`,
-/// checksum and CR.
-pub const LINE_ROOM: usize = 4 * 10 + 11 + 2 * 6 + 6 + 2;
 
 #[derive(Clone, PartialEq, Eq, Debug)]
 pub struct TextGauge {
+    /// Chosen when the gauge is made; no call changes it.
+    pub profile: Profile,
     pub settings: Settings,
-    /// The readings, in the order of the list of sources.
+    /// The readings, in the order of the list of sources. Those that the profile
+    /// lacks stay as they start; nothing shows them.
     pub readings: [Reading; 7],
     pub fs: u8,
     pub unlocked: bool,
@@ -89,12 +90,17 @@ struct Outcome {
 }
 
 impl TextGauge {
-    /// Factory settings, the bench's start, locked.
+    /// A gauge of the third profile.
     pub fn start() -> TextGauge {
+        TextGauge::start_on(Profile::Third)
+    }
+
+    /// Factory settings, the bench's start, locked.
+    pub fn start_on(profile: Profile) -> TextGauge {
         let mut readings = [Reading::Pressure(Decimal::whole(1)); 7];
         readings[SOURCE_T2] = Reading::Degrees(2000);
         readings[SOURCE_T6] = Reading::Degrees(2000);
-        TextGauge { settings: Settings::factory(), readings, fs: 0, unlocked: false }
+        TextGauge { profile, settings: Settings::factory(profile), readings, fs: 0, unlocked: false }
     }
 
     /// A request: the number and the length of the reply in the memory.
@@ -119,7 +125,8 @@ impl TextGauge {
     }
 
     fn answer_v2(&mut self, address: u16, access: u8, command: [u8; 2], len: [u8; 2], data: &[u8]) -> Outcome {
-        let judged = read_v2(access, command, len, data).and_then(|request| self.obey_v2(&request));
+        let read = read_v2(self.profile, access, command, len, data);
+        let judged = read.and_then(|request| self.obey_v2(&request));
         match judged {
             Ok(text) => {
                 let frame = frame::build_v2(address, access + 1, command, text.as_bytes());
@@ -198,7 +205,7 @@ impl TextGauge {
     }
 
     fn restore(&mut self, command: Command) {
-        let factory = Settings::factory();
+        let factory = Settings::factory(self.profile);
         let settings = &mut self.settings;
         match command {
             Command::Da => settings.address = factory.address,
@@ -230,7 +237,7 @@ impl TextGauge {
         if matches!(request, Request::V1SetFactor(_)) && !was_unlocked {
             return Err(LOGIC);
         }
-        match request.judge() {
+        match request.judge_on_any() {
             ACCEPTED => (),
             number => return Err(number),
         }
@@ -260,7 +267,7 @@ impl TextGauge {
 
     /// The stream line: the number and its length in the memory.
     pub fn line(&self, memory: &mut [u8]) -> (u16, usize) {
-        if memory.len() < LINE_ROOM {
+        if memory.len() < self.profile.line_room() {
             return (ROOM, 0);
         }
         if self.settings.stream.mode == 0 {
@@ -272,12 +279,14 @@ impl TextGauge {
         (ACCEPTED, place(&line, memory))
     }
 
-    /// The bench sets a source or FS: 0, or 15 and nothing changes.
+    /// The bench sets a source that the profile has, or FS: 0, or 15 and nothing
+    /// changes.
     pub fn bench(&mut self, source: &str, value: BenchValue) -> u16 {
         if source == "FS" {
             return self.bench_fs(value);
         }
-        let Some(index) = source_named(source.as_bytes()) else {
+        let named = source_named(source.as_bytes());
+        let Some(index) = named.filter(|index| self.profile.offers(*index)) else {
             return BENCH;
         };
         match bench_reading(index, value) {

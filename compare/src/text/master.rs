@@ -3,6 +3,7 @@
 use super::decimal::{two_decimals, Decimal};
 use super::frame::{self, Frame};
 use super::gauge::pressure_is_right;
+use super::profile::Profile;
 use super::request::{
     read_c1, read_da, read_digit, read_hundredths, read_sm, read_st, Command, Request, Stream, Transition,
 };
@@ -11,15 +12,16 @@ use crate::place;
 
 pub const WRITER_ROOM: usize = 109;
 
-/// Writes a typed request: the number and the length of the frame.
-pub fn write(address: u32, request: &Request, memory: &mut [u8]) -> (u16, usize) {
+/// Writes a typed request for a gauge of the profile: the number and the length
+/// of the frame. For V1 the profile does not count.
+pub fn write(profile: Profile, address: u32, request: &Request, memory: &mut [u8]) -> (u16, usize) {
     if memory.len() < WRITER_ROOM {
         return (ROOM, 0);
     }
     if !(1..=999).contains(&address) {
         return (ADDRESS, 0);
     }
-    match request.judge() {
+    match request.judge(profile) {
         ACCEPTED => (ACCEPTED, place(&frame_of(address as u16, request), memory)),
         number => (number, 0),
     }
@@ -88,8 +90,8 @@ fn error_among(data: &[u8], allowed: &[&'static str]) -> Option<Reply> {
     allowed.iter().find(|text| text.as_bytes() == data).map(|text| Reply::Error(text))
 }
 
-/// The V2 reply reader, told the address and the request.
-pub fn read_v2_reply(told: u32, request: &Request, bytes: &[u8]) -> Result<Reply, u16> {
+/// The V2 reply reader, told the profile, the address and the request.
+pub fn read_v2_reply(profile: Profile, told: u32, request: &Request, bytes: &[u8]) -> Result<Reply, u16> {
     // A V1 frame is SHAPE here, before its checksum is looked at.
     if bytes.get(3).is_some_and(|b| !b.is_ascii_digit()) {
         return Err(SHAPE);
@@ -110,14 +112,14 @@ pub fn read_v2_reply(told: u32, request: &Request, bytes: &[u8]) -> Result<Reply
         return error_among(data, &ERROR_TEXTS).ok_or(SYNTAX);
     }
     match request {
-        Request::Read(command) => read_value(*command, data).map(Reply::Value),
+        Request::Read(command) => read_value(profile, *command, data).map(Reply::Value),
         _ if data.is_empty() => Ok(Reply::Done),
         _ => Err(SYNTAX),
     }
 }
 
 /// The value in the data of a reply to a read.
-fn read_value(command: Command, data: &[u8]) -> Result<Value, u16> {
+fn read_value(profile: Profile, command: Command, data: &[u8]) -> Result<Value, u16> {
     Ok(match command {
         Command::Mv => return read_pressure(data),
         Command::T2 => Value::Degrees(read_hundredths(data, -4000, 12500)?),
@@ -127,8 +129,8 @@ fn read_value(command: Command, data: &[u8]) -> Result<Value, u16> {
         Command::Cm | Command::Cc => Value::Digit(read_digit(data, 1)?),
         Command::Fc | Command::Fs => Value::Digit(read_digit(data, 3)?),
         Command::Fn => Value::Digit(read_filament(data)?),
-        Command::St => Value::Transition(read_st(data)?),
-        Command::Sm => Value::Stream(read_sm(data)?),
+        Command::St => Value::Transition(read_st(profile, data)?),
+        Command::Sm => Value::Stream(read_sm(profile, data)?),
     })
 }
 

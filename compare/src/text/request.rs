@@ -2,6 +2,7 @@
 
 use super::decimal::{two_decimals, Decimal, MOST_DIGITS};
 use super::frame::{self, Frame};
+use super::profile::Profile;
 use super::*;
 use std::cmp::Ordering;
 
@@ -77,9 +78,15 @@ impl Transition {
         }
     }
 
-    /// Each number from 1 to 20.
-    pub fn in_limits(self) -> bool {
-        self.numbers().into_iter().all(|number| number.within(1, 20))
+    /// Each number within the profile's limits.
+    pub fn in_limits(self, profile: Profile) -> bool {
+        let (low, high) = profile.limits();
+        self.numbers().into_iter().all(|number| number.within(low, high))
+    }
+
+    /// Whether the profile has this form.
+    fn has_form_of(self, profile: Profile) -> bool {
+        matches!(self, Transition::Direct(_)) || profile.has_between()
     }
 
     fn needs_too_many_digits(self) -> bool {
@@ -192,8 +199,17 @@ impl Request {
     }
 
     /// Judges a typed request by the rules that need no state: the number
-    /// 9, 10, 11 or 12, or 0.
-    pub fn judge(&self) -> u16 {
+    /// 9, 10, 11 or 12, or 0. The profile counts for ST and SM alone.
+    pub fn judge(&self, profile: Profile) -> u16 {
+        match self {
+            Request::SetSt(transition) => judge_transition(profile, *transition),
+            Request::SetSm(stream) => judge_stream(profile, stream),
+            other => other.judge_on_any(),
+        }
+    }
+
+    /// The same of a request for which no profile counts, each of V1 among them.
+    pub fn judge_on_any(&self) -> u16 {
         match self {
             Request::Default(command) if !command.has_default() => ACCESS,
             Request::SetDa(address) if *address > 999 => SYNTAX,
@@ -201,8 +217,6 @@ impl Request {
             Request::SetC1(factor) => range(u32::from(*factor), 20, 800),
             Request::SetCm(digit) | Request::SetCc(digit) => judge_digit(*digit, 1),
             Request::SetFc(digit) => judge_digit(*digit, 3),
-            Request::SetSt(transition) => judge_transition(*transition),
-            Request::SetSm(stream) => judge_stream(stream),
             Request::V1SetFactor(number) | Request::V1SetUnit(number) if *number > 999_999 => SYNTAX,
             Request::V1SetFactor(factor) => range(*factor, 20, 800),
             Request::V1SetUnit(unit) => range(*unit, 0, 2),
@@ -226,10 +240,10 @@ fn judge_digit(digit: u8, largest: u8) -> u16 {
     range(u32::from(digit), 0, u32::from(largest))
 }
 
-fn judge_transition(transition: Transition) -> u16 {
-    if transition.needs_too_many_digits() {
+fn judge_transition(profile: Profile, transition: Transition) -> u16 {
+    if !transition.has_form_of(profile) || transition.needs_too_many_digits() {
         SYNTAX
-    } else if !transition.in_limits() {
+    } else if !transition.in_limits(profile) {
         RANGE
     } else if !transition.in_order() {
         LOGIC
@@ -238,11 +252,11 @@ fn judge_transition(transition: Transition) -> u16 {
     }
 }
 
-fn judge_stream(stream: &Stream) -> u16 {
-    let unknown = stream.list.iter().any(|source| *source >= SOURCES.len());
+fn judge_stream(profile: Profile, stream: &Stream) -> u16 {
+    let absent = stream.list.iter().any(|source| !profile.offers(*source));
     if stream.mode > 9 || (stream.mode == 0 && !stream.list.is_empty()) {
         SYNTAX
-    } else if !matches!(stream.mode, 0 | 4) || unknown {
+    } else if !matches!(stream.mode, 0 | 4) || absent {
         RANGE
     } else if stream.repeats() {
         LOGIC
@@ -288,19 +302,22 @@ pub fn read_c1(data: &[u8]) -> Result<u16, u16> {
     read_hundredths(data, 20, 800).map(|factor| factor as u16)
 }
 
-/// The two forms of ST: the form first (SYNTAX), then the limits (RANGE).
+/// What ST may hold: the form first (SYNTAX), then the limits (RANGE).
 /// The order of F and T is not judged here.
-pub fn read_st(data: &[u8]) -> Result<Transition, u16> {
-    let transition = transition_of_form(data).ok_or(SYNTAX)?;
-    if transition.in_limits() {
+pub fn read_st(profile: Profile, data: &[u8]) -> Result<Transition, u16> {
+    let transition = transition_of_form(data, MOST_DIGITS).ok_or(SYNTAX)?;
+    if !transition.has_form_of(profile) {
+        Err(SYNTAX)
+    } else if transition.in_limits(profile) {
         Ok(transition)
     } else {
         Err(RANGE)
     }
 }
 
-fn transition_of_form(data: &[u8]) -> Option<Transition> {
-    let number = |text: &[u8]| Decimal::of_form(text, MOST_DIGITS);
+/// One of the two forms of ST, with at most so many digits in each number.
+pub fn transition_of_form(data: &[u8], most: usize) -> Option<Transition> {
+    let number = |text: &[u8]| Decimal::of_form(text, most);
     match data.split_first()? {
         (b'D', rest) => Some(Transition::Direct(number(rest)?)),
         (b'F', rest) => {
@@ -313,21 +330,23 @@ fn transition_of_form(data: &[u8]) -> Option<Transition> {
 
 /// The mode and the list of SM: the form over the whole data first, then the
 /// sources, then repeats.
-pub fn read_sm(data: &[u8]) -> Result<Stream, u16> {
+pub fn read_sm(profile: Profile, data: &[u8]) -> Result<Stream, u16> {
     let (mode, rest) = data.split_first().ok_or(SYNTAX)?;
     let entries = entries_of_form(rest).ok_or(SYNTAX)?;
     match mode {
         b'0' if entries.is_empty() => Ok(Stream { mode: 0, list: Vec::new() }),
         b'0' => Err(SYNTAX),
-        b'4' => read_list(entries),
+        b'4' => read_list(profile, entries),
         b'1'..=b'9' => Err(RANGE),
         _ => Err(SYNTAX),
     }
 }
 
-/// The list of mode 4: RANGE for an unknown source, then LOGIC for a repeat.
-fn read_list(entries: Vec<&[u8]>) -> Result<Stream, u16> {
-    let list: Option<Vec<usize>> = entries.into_iter().map(source_named).collect();
+/// The list of mode 4: RANGE for a source that is unknown or that the profile
+/// lacks, then LOGIC for a repeat.
+fn read_list(profile: Profile, entries: Vec<&[u8]>) -> Result<Stream, u16> {
+    let offered = |name| source_named(name).filter(|source| profile.offers(*source));
+    let list: Option<Vec<usize>> = entries.into_iter().map(offered).collect();
     let stream = Stream { mode: 4, list: list.ok_or(RANGE)? };
     if stream.repeats() {
         Err(LOGIC)
@@ -357,7 +376,7 @@ pub fn source_of_form(text: &[u8]) -> bool {
 }
 
 /// The data of a write.
-fn read_set(command: Command, data: &[u8]) -> Result<Request, u16> {
+fn read_set(profile: Profile, command: Command, data: &[u8]) -> Result<Request, u16> {
     Ok(match command {
         Command::Da => Request::SetDa(read_da(data)?),
         Command::Du => Request::SetDu(Unit::with_text(data).ok_or(SYNTAX)?),
@@ -365,14 +384,20 @@ fn read_set(command: Command, data: &[u8]) -> Result<Request, u16> {
         Command::Cm => Request::SetCm(read_digit(data, 1)?),
         Command::Cc => Request::SetCc(read_digit(data, 1)?),
         Command::Fc => Request::SetFc(read_digit(data, 3)?),
-        Command::St => Request::SetSt(read_st(data)?),
-        Command::Sm => Request::SetSm(read_sm(data)?),
+        Command::St => Request::SetSt(read_st(profile, data)?),
+        Command::Sm => Request::SetSm(read_sm(profile, data)?),
         _ => return Err(ACCESS),
     })
 }
 
 /// The checks 6 to 12 of a V2 request, as far as they need no state.
-pub fn read_v2(access: u8, command: [u8; 2], len: [u8; 2], data: &[u8]) -> Result<Request, u16> {
+pub fn read_v2(
+    profile: Profile,
+    access: u8,
+    command: [u8; 2],
+    len: [u8; 2],
+    data: &[u8],
+) -> Result<Request, u16> {
     frame::check_len(len, data)?;
     if !matches!(access, b'0' | b'2' | b'4') {
         return Err(CODE);
@@ -387,7 +412,7 @@ pub fn read_v2(access: u8, command: [u8; 2], len: [u8; 2], data: &[u8]) -> Resul
     match access {
         b'0' => Ok(Request::Read(command)),
         b'4' => Ok(Request::Default(command)),
-        _ => in_order(read_set(command, data)?),
+        _ => in_order(read_set(profile, command, data)?),
     }
 }
 
@@ -424,16 +449,16 @@ fn one_only(data: &[u8]) -> Result<(), u16> {
     }
 }
 
-/// The request reader: the address and the typed request, or the first of
-/// the numbers 2, 3, 4 and 6 to 12 that applies without any state.
-pub fn read_request(bytes: &[u8]) -> Result<(u16, Request), u16> {
+/// The request reader, told the profile: the address and the typed request, or
+/// the first of the numbers 2, 3, 4 and 6 to 12 that applies without any state.
+pub fn read_request(profile: Profile, bytes: &[u8]) -> Result<(u16, Request), u16> {
     match frame::open(bytes)? {
         Frame::V2 { address, access, command, len, data } => {
-            Ok((address, read_v2(access, command, len, data)?))
+            Ok((address, read_v2(profile, access, command, len, data)?))
         }
         Frame::V1 { address, letter, data } => {
             let request = read_v1_form(letter, data)?;
-            match request.judge() {
+            match request.judge_on_any() {
                 ACCEPTED => Ok((address, request)),
                 number => Err(number),
             }

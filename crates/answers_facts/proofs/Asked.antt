@@ -77,7 +77,7 @@ module _ (g : State) where
 
 -- bytes sent to a gauge of their address, with room for its answer
 module _ (g : State) (room : ℕ) (s : List ℕ) (r : ltb room answerRoom ≡ false) (o : otherAddress g s ≡ false) where
-  by-frame : (f : Frame) → Tells s f → Numbered s f → eqb (requestNumber (fromFrame s f)) 0 ≡ false → Refuses g (requestNumber (fromFrame s f)) (numberOf g room s)
+  by-frame : (f : Frame) → Tells s f → Numbered s f → eqb (requestNumber (fromFrame (g .limits) s f)) 0 ≡ false → Refuses g (requestNumber (fromFrame (g .limits) s f)) (numberOf g room s)
   unfolding fromFrame requestNumber headV1
   by-frame (frame.Silent k) t n e = inl (n .1 g room r)
   by-frame (frame.Length h) t n e = inl (number-6 s g room r (t .0) o (t .1) (t .2))
@@ -85,8 +85,8 @@ module _ (g : State) (room : ℕ) (s : List ℕ) (r : ltb room answerRoom ≡ fa
       let q : askV1 (h .letter) (dataFrom 4 s) ≡ askedV1 s = ap (λ (k : HeadV1). askV1 (k .letter) (dataFrom 4 s)) (t .2) in
       rw (number-v1 s g room r (t .0) o (t .1), ← q) (of-v1 g (h .address) (askV1 (h .letter) (dataFrom 4 s)) e)
   by-frame (frame.V2 h) t n e =
-      let q : askV2 h (dataFrom 8 s) ≡ askedV2 s = ap (λ (k : HeadV2). askV2 k (dataFrom 8 s)) (t .3) in
-      rw (number-v2 s g room r (t .0) o (t .1) (t .2), ← q) (of-v2 g (h .address) (askV2 h (dataFrom 8 s)) e)
+      let q : askV2 (g .limits) h (dataFrom 8 s) ≡ askedV2 (g .limits) s = ap (λ (k : HeadV2). askV2 (g .limits) k (dataFrom 8 s)) (t .3) in
+      rw (number-v2 s g room r (t .0) o (t .1) (t .2), ← q) (of-v2 g (h .address) (askV2 (g .limits) h (dataFrom 8 s)) e)
 
 -- what the reader refuses the gauge refuses, with the same number
 pub refused-alike : RefusedAlike
@@ -95,8 +95,8 @@ refused-alike g room s r o = by-frame g room s r o (frameOf s) (tells s) (number
 
 -- what the gauge accepts is a typed request
 pub accepted-read : AcceptedRead
-accepted-read g room s r o z = by (eqb (requestNumber (requestOf s)) 0) (eqb-true _ 0) (λ e. go (refused-alike g room s r o e))
+accepted-read g room s r o z = by (eqb (requestNumber (requestOf (g .limits) s)) 0) (eqb-true _ 0) (λ e. go (refused-alike g room s r o e))
   where
-    go : Refuses g (requestNumber (requestOf s)) (numberOf g room s) → requestNumber (requestOf s) ≡ 0
+    go : Refuses g (requestNumber (requestOf (g .limits) s)) (numberOf g room s) → requestNumber (requestOf (g .limits) s) ≡ 0
     go (inl n) = sym n ∙ z
     go (inr w) = absurd (let h = w .1 in omega arith)

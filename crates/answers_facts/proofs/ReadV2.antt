@@ -19,7 +19,7 @@ use Rattle.decimal.specs.declared.Parsed.the-variants.{Value, Syntax, Range}
 use Rattle.decimal.specs.declared.Hundredths.{Hundredths}
 use Rattle.decimal.specs.declared.Hundredths.the-variants.{Whole, Other}
 use Rattle.sources.specs.Entries.{entriesNumber}
-use Rattle.settings.specs.Limits.{standard, benchLimits}
+use Rattle.settings.specs.Limits.{ProfileLimits, standard, benchLimits}
 use Rattle.settings.specs.declared.Transition.the-variants.{Between}
 use Rattle.settings.specs.declared.Key.{Key}
 use Rattle.settings.specs.declared.Key.the-variants.{DA, DU, C1, CM, CC, FC, ST, SM}
@@ -230,11 +230,11 @@ abbrev Passed : Limited → Type 0
 Passed (Fine n) = Unit {0}
 Passed (Limited.Refused k) = Low k
 
-limited-low : (p : Parsed) → Passed (limitedOf p)
+limited-low : (limits : ProfileLimits) (p : Parsed) → Passed (limitedOf limits p)
 unfolding limitedOf
-limited-low Syntax = syntax
-limited-low Range = range
-limited-low (Value n) = each Passed _ (Limited.Refused 11) _ (λ _. range) (λ _. each Passed _ (Limited.Refused 11) _ (λ _. range) (λ _. tt))
+limited-low limits Syntax = syntax
+limited-low limits Range = range
+limited-low limits (Value n) = each Passed _ (Limited.Refused 11) _ (λ _. range) (λ _. each Passed _ (Limited.Refused 11) _ (λ _. range) (λ _. tt))
 
 -- F and T in a wrong order are refused to a write with 12, and read in a reply
 order : (b : Bool) (x : Setting) → written (verdictNumber (pick b (verdict.Refused 12) (verdict.Set x))) ≡ 0
@@ -257,47 +257,47 @@ both-number (Limited.Refused j) (Limited.Refused k) (inl e) (inr f) = rw (e, f) 
 both-number (Limited.Refused j) (Limited.Refused k) (inr e) (inl f) = rw (e, f) (refused-low 10 syntax)
 both-number (Limited.Refused j) (Limited.Refused k) (inr e) (inr f) = rw (e, f) (refused-low 11 range)
 
-ends-number : (s : List ℕ) → Numbered (transitionReply (endsOf s)) (written (verdictNumber (transitionOf (endsOf s))))
+ends-number : (limits : ProfileLimits) (s : List ℕ) → Numbered (transitionReply (endsOf limits s)) (written (verdictNumber (transitionOf (endsOf limits s))))
 unfolding endsOf transitionReply transitionOf
-ends-number s =
+ends-number limits s =
     let t = drop 1 s in
     let k = untilOf 84 t in
     let P : Ends → Type 0 = λ (e : Ends). Numbered (transitionReply e) (written (verdictNumber (transitionOf e))) in
-    each P _ (One (limitedOf (numberOf t))) _ (λ _. direct-number _ (limited-low (numberOf t)))
+    each P _ (One (limitedOf limits (numberOf t))) _ (λ _. direct-number _ (limited-low limits (numberOf t)))
     (λ _. each P _ None _ (λ _. refused-low 10 syntax)
     (λ _. each P _ None _ (λ _. refused-low 10 syntax)
-    (λ _. both-number _ _ (limited-low (numberOf (take k t))) (limited-low (numberOf (drop (k + 1) t))))))
+    (λ _. both-number _ _ (limited-low limits (numberOf (take k t))) (limited-low limits (numberOf (drop (k + 1) t))))))
 
-setting-number : (key : Key) (s : List ℕ) → Numbered (settingReply key s) (all (eqb (verdictNumber (verdictOf key s)) 10) (eqb (verdictNumber (verdictOf key s)) 11) (repeated (Of key) s))
+setting-number : (limits : ProfileLimits) (key : Key) (s : List ℕ) → Numbered (settingReply limits key s) (all (eqb (verdictNumber (verdictOf limits key s)) 10) (eqb (verdictNumber (verdictOf limits key s)) 11) (repeated limits (Of key) s))
 unfolding settingReply verdictOf transitionData streamData repeated commandText sameText pick
-setting-number DA s = held _ (address-low s)
-setting-number DU s = held _ (unit-low s)
-setting-number C1 s = held _ (factor-low (numberOf s))
-setting-number CM s = held _ (digit-low Control (standard .controlHigh) s)
-setting-number CC s = held _ (digit-low Cathode (standard .cathodeHigh) s)
-setting-number FC s = held _ (digit-low Filament (standard .filamentHigh) s)
-setting-number ST s = ends-number s
-setting-number SM s = held-list _ (stream-judged s (entriesNumber (drop 1 s)))
+setting-number limits DA s = held _ (address-low s)
+setting-number limits DU s = held _ (unit-low s)
+setting-number limits C1 s = held _ (factor-low (numberOf s))
+setting-number limits CM s = held _ (digit-low Control (standard .controlHigh) s)
+setting-number limits CC s = held _ (digit-low Cathode (standard .cathodeHigh) s)
+setting-number limits FC s = held _ (digit-low Filament (standard .filamentHigh) s)
+setting-number limits ST s = ends-number limits s
+setting-number limits SM s = held-list _ (stream-judged s (entriesNumber (limits .sourceCodes) (drop 1 s)))
 
-value-number : (c : Command) (d : List ℕ) → Numbered (valueReply c d) (all (badValue c d) (outside c d) (repeated c d))
+value-number : (limits : ProfileLimits) (c : Command) (d : List ℕ) → Numbered (valueReply limits c d) (all (badValue limits c d) (outside limits c d) (repeated limits c d))
 unfolding valueReply badValue outside unmeasured pressureReply repeated commandText sameText pick
-value-number MV d =
+value-number limits MV d =
     to (either (sameText d underText) (sameText d overText) (eqb (parsedNumber (numberOf d)) 10) (tooLow (numberOf d)))
     (row (sameText d underText) (read UnderRange) (row (sameText d overText) (read OverRange) (parsed-measured (numberOf d))))
-value-number T2 d = parsed-degrees (numberOf d)
-value-number FN d = filament-number d
-value-number FS d = status-number d
-value-number (Of key) d = setting-number key d
+value-number limits T2 d = parsed-degrees (numberOf d)
+value-number limits FN d = filament-number d
+value-number limits FS d = status-number d
+value-number limits (Of key) d = setting-number limits key d
 
 done-number : (d : List ℕ) → Numbered (doneReply d) (rows (not (eqb (length d) 0)) false)
 unfolding doneReply
 done-number d = to (never (not (eqb (length d) 0))) (row _ (refused 10 refl) (read Done))
 
-data-number : (r : RequestV2) (d : List ℕ) → Numbered (dataReply r d) (all (badData r d) (outsideData r d) (repeatedData r d))
+data-number : (limits : ProfileLimits) (r : RequestV2) (d : List ℕ) → Numbered (dataReply limits r d) (all (badData limits r d) (outsideData limits r d) (repeatedData limits r d))
 unfolding dataReply badData outsideData repeatedData pick
-data-number (request.Read c) d = value-number c d
-data-number (request.Restore c) d = done-number d
-data-number (request.Set x) d = done-number d
+data-number limits (request.Read c) d = value-number limits c d
+data-number limits (request.Restore c) d = done-number d
+data-number limits (request.Set x) d = done-number d
 
 -- six texts, one after another
 six : (a b c d e f : Bool)
@@ -326,6 +326,6 @@ by-access false x y z t = refl
 -- the number of any bytes, read as the reply to any request that was sent to any address; it is 0 exactly if a reply was read
 pub reply-number : ReplyNumberV2
 unfolding readV2 bodyReply
-reply-number address r s =
+reply-number limits address r s =
     row _ (refused 2 refl) (row _ (refused 3 refl) (row _ (refused 4 refl) (row _ (refused 5 refl) (row _ (refused 6 refl) (row _ (refused 14 refl)
-    (to (by-access _ _ _ _ _) (row _ (error-number (dataFrom 8 s)) (data-number r (dataFrom 8 s)))))))))
+    (to (by-access _ _ _ _ _) (row _ (error-number (dataFrom 8 s)) (data-number limits r (dataFrom 8 s)))))))))

@@ -17,7 +17,7 @@ use Rattle.decimal.specs.declared.Parsed.the-variants.{Value, Syntax, Range}
 use Rattle.decimal.specs.declared.Hundredths.{Hundredths}
 use Rattle.decimal.specs.declared.Hundredths.the-variants.{Whole, Other}
 use Rattle.readings.specs.Bench.{takes, outsideDegrees}
-use Rattle.settings.specs.Limits.{benchLimits}
+use Rattle.settings.specs.Limits.{ProfileLimits, benchLimits}
 use Rattle.forms.specs.Judged.{verdictOf, verdictNumber}
 use Rattle.settings.specs.declared.Key.the-variants.{SM}
 use Rattle.requests.specs.Command.{commandText}
@@ -48,12 +48,12 @@ abbrev pub oneDigit : List ℕ → Bool
 oneDigit d = eqb (length d) 1 && isDigit (at d 0)
 
 -- 10: the data are not of the command's form. A setting's are judged as those of a write
-unfoldable pub badValue : Command → List ℕ → Bool
-badValue MV d = not (unmeasured d) && eqb (parsedNumber (numberOf d)) 10
-badValue T2 d = eqb (parsedNumber (numberOf d)) 10
-badValue FN d = not (oneDigit d)
-badValue FS d = not (oneDigit d)
-badValue (Of key) d = eqb (verdictNumber (verdictOf key d)) 10
+unfoldable pub badValue : ProfileLimits → Command → List ℕ → Bool
+badValue limits MV d = not (unmeasured d) && eqb (parsedNumber (numberOf d)) 10
+badValue limits T2 d = eqb (parsedNumber (numberOf d)) 10
+badValue limits FN d = not (oneDigit d)
+badValue limits FS d = not (oneDigit d)
+badValue limits (Of key) d = eqb (verdictNumber (verdictOf limits key d)) 10
 
 -- 11: of the form, and outside. "0, 1, 2, 6 above zero"; "temperatures whole hundredths from -40.00 to 125.00"; FN `1`-`2`; FS `0`-`3`.
 -- (ST's F and T in any order are read: this reader has 12 for SM's list only.)
@@ -71,16 +71,16 @@ noDegrees (Value n) = beyond (n .negative) (hundredthsOf n)
 noDegrees Syntax = false
 noDegrees Range = true
 
-unfoldable pub outside : Command → List ℕ → Bool
-outside MV d = not (unmeasured d) && tooLow (numberOf d)
-outside T2 d = noDegrees (numberOf d)
-outside FN d = ltb (benchLimits .filamentHigh) (at d 0 - 48) || ltb (at d 0 - 48) (benchLimits .filamentLow)
-outside FS d = ltb (benchLimits .statusHigh) (at d 0 - 48)
-outside (Of key) d = eqb (verdictNumber (verdictOf key d)) 11
+unfoldable pub outside : ProfileLimits → Command → List ℕ → Bool
+outside limits MV d = not (unmeasured d) && tooLow (numberOf d)
+outside limits T2 d = noDegrees (numberOf d)
+outside limits FN d = ltb (benchLimits .filamentHigh) (at d 0 - 48) || ltb (at d 0 - 48) (benchLimits .filamentLow)
+outside limits FS d = ltb (benchLimits .statusHigh) (at d 0 - 48)
+outside limits (Of key) d = eqb (verdictNumber (verdictOf limits key d)) 11
 
 -- 12: "a repeat or a listed `0` is 12 LOGIC, after RANGE, at the writer and the V2 reply reader too"
-unfoldable pub repeated : Command → List ℕ → Bool
-repeated c d = sameText (commandText c) (bytes "SM") && eqb (verdictNumber (verdictOf SM d)) 12
+unfoldable pub repeated : ProfileLimits → Command → List ℕ → Bool
+repeated limits c d = sameText (commandText c) (bytes "SM") && eqb (verdictNumber (verdictOf limits SM d)) 12
 
 -- ---- any data; a is the access code
 
@@ -98,24 +98,24 @@ errorText d =
     false
 
 -- "Write and default replies carry no data."
-unfoldable pub badData : RequestV2 → List ℕ → Bool
-badData (request.Read c) d = badValue c d
-badData (request.Restore c) d = not (eqb (length d) 0)
-badData (request.Set x) d = not (eqb (length d) 0)
+unfoldable pub badData : ProfileLimits → RequestV2 → List ℕ → Bool
+badData limits (request.Read c) d = badValue limits c d
+badData limits (request.Restore c) d = not (eqb (length d) 0)
+badData limits (request.Set x) d = not (eqb (length d) 0)
 
-unfoldable pub outsideData : RequestV2 → List ℕ → Bool
-outsideData (request.Read c) d = outside c d
-outsideData (request.Restore c) d = false
-outsideData (request.Set x) d = false
+unfoldable pub outsideData : ProfileLimits → RequestV2 → List ℕ → Bool
+outsideData limits (request.Read c) d = outside limits c d
+outsideData limits (request.Restore c) d = false
+outsideData limits (request.Set x) d = false
 
-unfoldable pub repeatedData : RequestV2 → List ℕ → Bool
-repeatedData (request.Read c) d = repeated c d
-repeatedData (request.Restore c) d = false
-repeatedData (request.Set x) d = false
+unfoldable pub repeatedData : ProfileLimits → RequestV2 → List ℕ → Bool
+repeatedData limits (request.Read c) d = repeated limits c d
+repeatedData limits (request.Restore c) d = false
+repeatedData limits (request.Set x) d = false
 
 -- the first that applies
-abbrev pub numberRows : ℕ → RequestV2 → List ℕ → ℕ
-numberRows address r s =
+abbrev pub numberRows : ProfileLimits → ℕ → RequestV2 → List ℕ → ℕ
+numberRows limits address r s =
     let refuses = eqb (headV2 s .access) errorCode in
     let d = dataFrom 8 s in
     first
@@ -125,8 +125,8 @@ numberRows address r s =
     ∷ not (eqb (headV2 s .address) address) ⇒ 5
     ∷ wrongLength s ⇒ 6
     ∷ mismatched r (headV2 s) ⇒ 14
-    ∷ cond refuses (not (errorText d)) (badData r d) ⇒ 10
-    ∷ (not refuses && outsideData r d) ⇒ 11
-    ∷ (not refuses && repeatedData r d) ⇒ 12
+    ∷ cond refuses (not (errorText d)) (badData limits r d) ⇒ 10
+    ∷ (not refuses && outsideData limits r d) ⇒ 11
+    ∷ (not refuses && repeatedData limits r d) ⇒ 12
     ∷ [])
     0

@@ -6,6 +6,7 @@ use Prim.Native.Nat.{ℕ}
 use lib.Dec.{eqb, ltb}
 use Rattle.buffer.specs.First.{_⇒_, first, pick}
 use Rattle.frames.specs.Frame.{frameOf, frameNumber}
+use Rattle.settings.specs.Limits.{ProfileLimits}
 use Rattle.requests.specs.declared.RequestV1.{RequestV1}
 use Rattle.requests.specs.declared.RequestV2.{RequestV2}
 use Rattle.requests.specs.declared.AskV1.{AskV1}
@@ -43,16 +44,16 @@ DecidedV2 = (g : State) (x : AskV2) → decidedV2 g x ≡ first (not (eqb (askNu
 abbrev pub DecidedV1 : Type 0
 DecidedV1 = (g : State) (x : AskV1) → eqb (askNumberV1 x) 0 ≡ false → decidedV1 g x ≡ askNumberV1 x
 
--- the request reader beside a gauge of the bytes' address, with room for its answer: what the reader refuses the gauge refuses, with the same
+-- the request reader, told the gauge's profile, beside a gauge of the bytes' address, with room for its answer: what the reader refuses the gauge refuses, with the same
 -- number, save V1's lock
 abbrev pub RefusedAlike : Type 0
 RefusedAlike = (g : State) (room : ℕ) (s : List ℕ) → ltb room answerRoom ≡ false → otherAddress g s ≡ false
-    → eqb (requestNumber (requestOf s)) 0 ≡ false → Refuses g (requestNumber (requestOf s)) (numberOf g room s)
+    → eqb (requestNumber (requestOf (g .limits) s)) 0 ≡ false → Refuses g (requestNumber (requestOf (g .limits) s)) (numberOf g room s)
 
 -- and what the gauge accepts is a typed request
 abbrev pub AcceptedRead : Type 0
 AcceptedRead = (g : State) (room : ℕ) (s : List ℕ) → ltb room answerRoom ≡ false → otherAddress g s ≡ false
-    → numberOf g room s ≡ 0 → requestNumber (requestOf s) ≡ 0
+    → numberOf g room s ≡ 0 → requestNumber (requestOf (g .limits) s) ≡ 0
 
 -- ---- the bench, by two texts
 
@@ -68,7 +69,7 @@ TakenSource = (source value : List ℕ) → wordedNumber (wordedOf source value)
 
 -- the number of any bytes, read as the reply to any V2 request that was sent to any address; it is 0 exactly if a reply was read
 abbrev pub ReplyNumberV2 : Type 0
-ReplyNumberV2 = (address : ℕ) (r : RequestV2) (s : List ℕ) → Told v2.readNumber v2.isRead 0 (readV2 address r s) (v2.numberRows address r s)
+ReplyNumberV2 = (limits : ProfileLimits) (address : ℕ) (r : RequestV2) (s : List ℕ) → Told v2.readNumber v2.isRead 0 (readV2 limits address r s) (v2.numberRows limits address r s)
 
 -- the same of V1
 abbrev pub ReplyNumberV1 : Type 0

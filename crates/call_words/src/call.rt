@@ -1,6 +1,7 @@
 // The calls of a script, each a line.
 use script_words::row;
 use script_words::word;
+use sources::Profile;
 
 // The calls, by the place of their rows in the table of `read_row`. OPG_NONE is `opgbench none`, UNKNOWN a line that is no call.
 pub const RESTART: usize = 0;
@@ -33,13 +34,61 @@ pub const OPG_NONE: usize = 254;
 
 const UNKNOWN: usize = row::NONE;
 
-// A call: its first two numbers, how many bytes its HEX have, and how many of them the first HEX of two has. What a call lacks is 0.
+// A call: its profile, its first two numbers, how many bytes its HEX have, and how many of them the first HEX of two has. What a call lacks is 0, and
+// the third profile.
 pub struct Call {
     pub kind: usize,
+    pub profile: Profile,
     pub first: usize,
     pub second: usize,
     pub asked: usize,
     pub len: usize,
+}
+
+// The calls that may end with a profile.
+fn may_name(call: &[u8]) -> bool {
+    if buffer::is_same(call, b"restart") {
+        return true;
+    }
+    if buffer::is_same(call, b"request") {
+        return true;
+    }
+    if buffer::is_same(call, b"reply") {
+        return true;
+    }
+    buffer::is_same(call, b"write2")
+}
+
+// Where a line's last four bytes begin, which are a profile's word and the space before it.
+fn before_last(line: &[u8]) -> usize {
+    let n = line.len();
+    if n < 4 {
+        return 0;
+    }
+    n - 4
+}
+
+// The profile that a line ends with, or the third.
+fn profile_of(line: &[u8]) -> Profile {
+    if !may_name(word::nth(line, 0)) {
+        return Profile::Standard;
+    }
+    let last = buffer::rest(line, before_last(line));
+    if buffer::is_same(last, b" vsh") {
+        return Profile::Vsh;
+    }
+    if buffer::is_same(last, b" vsm") {
+        return Profile::Vsm;
+    }
+    Profile::Standard
+}
+
+// The line without the profile that it ends with.
+pub fn without_profile<'a>(line: &'a [u8], profile: Profile) -> &'a [u8] {
+    match profile {
+        Profile::Standard => &line[..],
+        _ => word::front(line, before_last(line)),
+    }
 }
 
 // x is HEX, v a word that the call reads itself.
@@ -101,13 +150,15 @@ fn ended(kind: usize, end: usize) -> usize {
 
 // Reads a line, and puts the bytes of its HEX into memory.
 pub fn read(line: &[u8], memory: &mut [u8]) -> Call {
-    let r = read_row(line);
+    let profile = profile_of(line);
+    let r = read_row(without_profile(line, profile));
     let kind = kind_of(r.place, line);
     let numbers = r.numbers;
     let asked = read_bytes(line, first_hex(kind), memory, 0);
     let len = read_bytes(line, last_hex(kind), memory, asked);
     Call {
         kind: ended(kind, len),
+        profile,
         first: numbers[0],
         second: numbers[1],
         asked,

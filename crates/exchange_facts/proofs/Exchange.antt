@@ -4,10 +4,12 @@ use mathlib.Core.List.{List}
 use Prim.Native.Nat.{ℕ, _≤_}
 use Rattle.sources.specs.Source.{listOf}
 use Rattle.sources.specs.declared.Sources.{Sources}
+use Rattle.settings.specs.Limits.{ProfileLimits}
 use Rattle.settings.specs.Settings.{keyOf}
 use Rattle.settings.specs.declared.Transition.{Transition}
 use Rattle.settings.specs.declared.Setting.{Setting}
 use Rattle.settings.specs.declared.Setting.the-variants.{Address, PressureIn, Factor, Control, Cathode, Filament, Switch, Stream}
+use Rattle.forms_facts.specs.Sound.{Proper}
 use Rattle.requests.specs.declared.RequestV2.{RequestV2}
 use Rattle.requests.specs.declared.RequestV2.the-variants.{Read, Restore, Set}
 use Rattle.requests.specs.declared.Command.the-variants.{Of}
@@ -60,24 +62,24 @@ alike (Set x) (Set y) e = record { command = ap Of (same-key x y e); access = re
 alike (Set x) (Read c) e = absurd e
 alike (Set x) (Restore c) e = absurd e
 
-asked-by : {address : ℕ} {r : RequestV2} {list s : List ℕ} (f : FormedV2 address r list s) → AskedBy address (f .again) s
-asked-by f = record { frame = frame-is f .0; asks = rw (frame-is f .1) (f .asks) }
+asked-by : {limits : ProfileLimits} → Proper limits → {address : ℕ} {r : RequestV2} {list s : List ℕ} (f : FormedV2 limits address r list s) → AskedBy limits address (f .again) s
+asked-by ok f = record { frame = frame-is ok f .0; asks = rw (frame-is ok f .1) (f .asks) }
 
 -- a request that the writer accepts for the gauge's address, answered by the gauge with 64 bytes lent and read again: the value that the
 -- gauge holds, or the error that document 01 fixes; and, for a read of SM, the list that it holds
 module _ (lent room : ℕ) (g : State) (r : RequestV2) (q : Sources) (sound : SoundState g) (enough : 64 ≤ room)
-    (accepted : requestWrittenV2 lent (g .settings .address) r q .number ≡ 0) where
+    (accepted : requestWrittenV2 (g .limits) lent (g .settings .address) r q .number ≡ 0) where
   abbrev bytes : List ℕ
-  bytes = requestWrittenV2 lent (g .settings .address) r q .reply
+  bytes = requestWrittenV2 (g .limits) lent (g .settings .address) r q .reply
 
-  abbrev formed-by : FormedV2 (g .settings .address) r (listOf q) bytes
-  formed-by = formed lent (g .settings .address) r q accepted
+  abbrev formed-by : FormedV2 (g .limits) (g .settings .address) r (listOf q) bytes
+  formed-by = formed (g .limits) (sound .proper) lent (g .settings .address) r q accepted
 
-  pub exchange-v2 : readV2 (g .settings .address) r (answerOf g room bytes .reply) ≡ expectedV2 g r
-  exchange-v2 = v2.exchange-v2 g room (g .settings .address) bytes (formed-by .again) r sound enough refl (asked-by formed-by) (alike r (formed-by .again) (formed-by .same))
+  pub exchange-v2 : readV2 (g .limits) (g .settings .address) r (answerOf g room bytes .reply) ≡ expectedV2 g r
+  exchange-v2 = v2.exchange-v2 g room (g .settings .address) bytes (formed-by .again) r sound enough refl (asked-by (sound .proper) formed-by) (alike r (formed-by .again) (formed-by .same))
 
-  pub exchange-list-v2 : readList (g .settings .address) r (answerOf g room bytes .reply) ≡ expectedListV2 g r
-  exchange-list-v2 = v2.exchange-list-v2 g room (g .settings .address) bytes (formed-by .again) r sound enough refl (asked-by formed-by) (alike r (formed-by .again) (formed-by .same))
+  pub exchange-list-v2 : readList (g .limits) (g .settings .address) r (answerOf g room bytes .reply) ≡ expectedListV2 g r
+  exchange-list-v2 = v2.exchange-list-v2 g room (g .settings .address) bytes (formed-by .again) r sound enough refl (asked-by (sound .proper) formed-by) (alike r (formed-by .again) (formed-by .same))
 
 -- ---- V1
 

@@ -12,4 +12,4 @@ use Rattle.exchange_v1_facts.specs.HeldV1.{expectedV1}
 -- a reply s that is read as what the gauge holds, or as the error that document 01 fixes
 abbrev pub ReadAsHeld : State → Typed → List ℕ → Type 0
 ReadAsHeld g (inV1 r) s = readV1 (g .settings .address) r s ≡ expectedV1 g r
-ReadAsHeld g (inV2 r q) s = (readV2 (g .settings .address) r s ≡ expectedV2 g r) × (readList (g .settings .address) r s ≡ expectedListV2 g r)
+ReadAsHeld g (inV2 r q) s = (readV2 (g .limits) (g .settings .address) r s ≡ expectedV2 g r) × (readList (g .limits) (g .settings .address) r s ≡ expectedListV2 g r)

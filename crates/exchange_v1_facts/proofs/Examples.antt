@@ -10,6 +10,8 @@ use Rattle.readings.specs.Reading.{faultyPressure}
 use Rattle.requests.specs.AskV1.{bareOf, askV1}
 use Rattle.requests.specs.declared.RequestV1.the-variants.{Measure}
 use Rattle.request_texts.specs.RequestText.{letterV1, dataV1}
+use Rattle.sources.specs.declared.Profile.the-variants.{Standard}
+use Rattle.settings.specs.Limits.{limitsOf}
 use Rattle.gauge_rules.specs.State.{fresh}
 use Rattle.gauge_rules_v1.specs.RulesV1.{factorNumber, grantV1}
 use Rattle.gauge_facts.proofs.Kept.{fresh-sound}
@@ -28,4 +30,4 @@ start-cases = (refl, refl, refl, refl, refl)
 
 pub whole-way : WholeWay
 unfolding expectedV1 grantV1 faultyPressure heldV1 pressureHeld roundedV1 pick frameV1 closed endOf checksumOf sumOf letterV1 dataV1 frameOf misshapen lengthFits isLetter within every wrongSum wrongAddress numeralFrom headV1 askV1 bareOf
-whole-way = answer-read-v1 fresh 64 1 Measure asked fresh-sound refl (omega arith) refl refl refl
+whole-way = answer-read-v1 (fresh (limitsOf Standard)) 64 1 Measure asked (fresh-sound Standard) refl (omega arith) refl refl refl

@@ -19,6 +19,8 @@ use Rattle.request_texts.specs.RequestText.{letterV1, dataV1, headForV1}
 use Rattle.replies_v1.specs.ReplyV1.{readV1}
 use Rattle.replies_v1.specs.declared.ReplyV1.the-variants.{Reads, Factor, Unit, Done, Error}
 use Rattle.replies_v1.specs.declared.ReadV1.the-variants.{Read}
+use Rattle.sources.specs.declared.Profile.the-variants.{Standard}
+use Rattle.settings.specs.Limits.{limitsOf}
 use Rattle.gauge_rules.specs.State.{State, fresh}
 use Rattle.gauge_table.specs.After.{answerOf}
 use Rattle.gauge_facts.specs.Sound.{SoundState}
@@ -51,12 +53,12 @@ RoundedCases = (roundedV1 (number 123449 9) ≡ Reads 1234 20)
 
 -- a gauge at the start: 1 mbar, the factor 1.00, mbar, and locked
 abbrev pub StartCases : Type 0
-StartCases = (expectedV1 fresh Measure ≡ Read (Reads 1000 20))
-    × (expectedV1 fresh ReadFactor ≡ Read (Factor 100))
-    × (expectedV1 fresh ReadUnit ≡ Read (Unit Mbar))
-    × (expectedV1 fresh (SetFactor 100) ≡ Read (Error Logic))
-    × (expectedV1 fresh (SetUnit Torr) ≡ Read Done)
+StartCases = (expectedV1 (fresh (limitsOf Standard)) Measure ≡ Read (Reads 1000 20))
+    × (expectedV1 (fresh (limitsOf Standard)) ReadFactor ≡ Read (Factor 100))
+    × (expectedV1 (fresh (limitsOf Standard)) ReadUnit ≡ Read (Unit Mbar))
+    × (expectedV1 (fresh (limitsOf Standard)) (SetFactor 100) ≡ Read (Error Logic))
+    × (expectedV1 (fresh (limitsOf Standard)) (SetUnit Torr) ≡ Read Done)
 
 -- `M` to address 1, the whole way
 abbrev pub WholeWay : Type 0
-WholeWay = readV1 1 Measure (answerOf fresh 64 asked .reply) ≡ Read (Reads 1000 20)
+WholeWay = readV1 1 Measure (answerOf (fresh (limitsOf Standard)) 64 asked .reply) ≡ Read (Reads 1000 20)

@@ -7,6 +7,8 @@ use Rattle.buffer.specs.Byte.{within, every, sameText}
 use Rattle.frame_writer.specs.Written.{frameV2}
 use Rattle.error_texts.specs.Texts.{errorOf}
 use Rattle.frames_facts.proofs.ReadBack.{read-back-v2}
+use Rattle.sources.specs.declared.Profile.the-variants.{Standard}
+use Rattle.settings.specs.Limits.{limitsOf}
 use Rattle.readings.specs.Reading.{faultyPressure}
 use Rattle.requests.specs.Command.{commandOf, findCommand, commandText, isAccess, lacksAccess}
 use Rattle.requests.specs.AskV2.{askKnown, askNamed, askV2}
@@ -35,7 +37,7 @@ unfolding expectedV2 grantV2 changesCathode errorOf pick
 cathode-expected = refl
 
 -- the bytes of a request for MV ask for it
-asks-pressure : AskedBy 1 (request.Read MV) (frameV2 (headFor 1 (request.Read MV)) [])
+asks-pressure : AskedBy (limitsOf Standard) 1 (request.Read MV) (frameV2 (headFor 1 (request.Read MV)) [])
 unfolding headFor accessOf commandIn commandText within every askV2 askNamed askKnown isAccess lacksAccess commandOf findCommand sameText pick
 asks-pressure =
     let w = read-back-v2 (headFor 1 (request.Read MV)) [] (record { address-in = refl; access-in = refl; first-in = refl; second-in = refl; bytes-in = refl; few = omega arith }) in
@@ -43,4 +45,4 @@ asks-pressure =
 
 -- and what the gauge answers to them is read as 1 mbar
 pub pressure-read : PressureRead
-pressure-read = exchange-v2 fresh 64 1 (frameV2 (headFor 1 (request.Read MV)) []) (request.Read MV) (request.Read MV) fresh-sound (omega arith) refl asks-pressure (alike-same (request.Read MV)) ∙ pressure-expected
+pressure-read = exchange-v2 (fresh (limitsOf Standard)) 64 1 (frameV2 (headFor 1 (request.Read MV)) []) (request.Read MV) (request.Read MV) (fresh-sound Standard) (omega arith) refl asks-pressure (alike-same (request.Read MV)) ∙ pressure-expected

@@ -2,6 +2,7 @@
 use mathlib.Core.List.{List}
 use Prim.Native.Nat.{ℕ}
 use Rattle.frames.specs.Frame.{dataFrom}
+use Rattle.settings.specs.Limits.{ProfileLimits}
 use Rattle.forms_facts.specs.Codes.{GoodList}
 use Rattle.forms_facts.proofs.Within.{accepted-list}
 use Rattle.forms_facts.proofs.Lemmas.Lists.{none-good}
@@ -15,30 +16,30 @@ use Rattle.replies_v2_values.specs.declared.ReadV2.the-variants.{Read, Refused}
 use Rattle.replies_v2.specs.ReplyV2.{readV2, beside, dataList, readList}
 use Rattle.exchange_v2_facts.specs.Theorems.{ReadGood}
 
-data-good : (r : RequestV2) (s : List ℕ) → GoodList (dataList r s)
+data-good : (limits : ProfileLimits) (r : RequestV2) (s : List ℕ) → GoodList (limits .sourceCodes) (dataList limits r s)
 unfolding dataList valueList
-data-good (request.Read MV) s = none-good
-data-good (request.Read T2) s = none-good
-data-good (request.Read FN) s = none-good
-data-good (request.Read FS) s = none-good
-data-good (request.Read (Of key)) s = accepted-list key s
-data-good (request.Restore c) s = none-good
-data-good (request.Set x) s = none-good
+data-good limits (request.Read MV) s = none-good (limits .sourceCodes)
+data-good limits (request.Read T2) s = none-good (limits .sourceCodes)
+data-good limits (request.Read FN) s = none-good (limits .sourceCodes)
+data-good limits (request.Read FS) s = none-good (limits .sourceCodes)
+data-good limits (request.Read (Of key)) s = accepted-list limits key s
+data-good limits (request.Restore c) s = none-good (limits .sourceCodes)
+data-good limits (request.Set x) s = none-good (limits .sourceCodes)
 
-beside-good : (x : ReadV2) (list : List ℕ) → GoodList list → GoodList (beside x list)
+beside-good : (limits : ProfileLimits) (x : ReadV2) (list : List ℕ) → GoodList (limits .sourceCodes) list → GoodList (limits .sourceCodes) (beside x list)
 unfolding beside
-beside-good (Read (Measured n)) list h = none-good
-beside-good (Read UnderRange) list h = none-good
-beside-good (Read OverRange) list h = none-good
-beside-good (Read (Degrees negative d)) list h = none-good
-beside-good (Read (FilamentNumber d)) list h = none-good
-beside-good (Read (StatusNumber d)) list h = none-good
-beside-good (Read (Holds x)) list h = h
-beside-good (Read Done) list h = none-good
-beside-good (Read (Error e)) list h = none-good
-beside-good (Refused k) list h = none-good
+beside-good limits (Read (Measured n)) list h = none-good (limits .sourceCodes)
+beside-good limits (Read UnderRange) list h = none-good (limits .sourceCodes)
+beside-good limits (Read OverRange) list h = none-good (limits .sourceCodes)
+beside-good limits (Read (Degrees negative d)) list h = none-good (limits .sourceCodes)
+beside-good limits (Read (FilamentNumber d)) list h = none-good (limits .sourceCodes)
+beside-good limits (Read (StatusNumber d)) list h = none-good (limits .sourceCodes)
+beside-good limits (Read (Holds x)) list h = h
+beside-good limits (Read Done) list h = none-good (limits .sourceCodes)
+beside-good limits (Read (Error e)) list h = none-good (limits .sourceCodes)
+beside-good limits (Refused k) list h = none-good (limits .sourceCodes)
 
 -- whatever the bytes
 pub read-good : ReadGood
 unfolding readList
-read-good address r s = beside-good (readV2 address r s) _ (data-good r (dataFrom 8 s))
+read-good limits address r s = beside-good limits (readV2 limits address r s) _ (data-good limits r (dataFrom 8 s))

@@ -9,6 +9,7 @@ use Rattle.frames.specs.Frame.{dataFrom, frameOf}
 use Rattle.frames.specs.declared.Frame.the-variants.{V2}
 use Rattle.error_texts.specs.Texts.{errorOf}
 use Rattle.error_texts.specs.declared.ErrorText.the-variants.{Error1}
+use Rattle.settings.specs.Limits.{ProfileLimits}
 use Rattle.settings.specs.declared.Key.the-variants.{DA, DU, C1, CM, CC, FC, ST, SM}
 use Rattle.readings.specs.declared.Pressure.{Pressure}
 use Rattle.readings.specs.declared.Pressure.the-variants as pressure
@@ -93,7 +94,7 @@ pub record Alike (x y : RequestV2) : Type 0 where
   pub command : commandIn x ≡ commandIn y
   pub access : accessOf x ≡ accessOf y
 
--- bytes that are a V2 frame for the address a, and ask x. (Which written requests are so is not said here.)
-pub record AskedBy (a : ℕ) (x : RequestV2) (s : List ℕ) : Type 0 where
+-- bytes that are a V2 frame for the address a, and ask x of a gauge with these limits. (Which written requests are so is not said here.)
+pub record AskedBy (limits : ProfileLimits) (a : ℕ) (x : RequestV2) (s : List ℕ) : Type 0 where
   pub frame : frameOf s ≡ V2 (headFor a x)
-  pub asks : askV2 (headFor a x) (dataFrom 8 s) ≡ Asks x
+  pub asks : askV2 limits (headFor a x) (dataFrom 8 s) ≡ Asks x

@@ -13,7 +13,7 @@ use Rattle.decimal.specs.declared.Parsed.the-variants.{Value, Syntax, Range}
 use Rattle.decimal.specs.declared.Hundredths.{Hundredths}
 use Rattle.decimal.specs.declared.Hundredths.the-variants.{Whole, Other}
 use Rattle.sources.specs.Entries.{entriesNumber}
-use Rattle.settings.specs.Limits.{standard, isFactor}
+use Rattle.settings.specs.Limits.{ProfileLimits, standard, isFactor}
 use Rattle.settings.specs.Sent.{unitText}
 use Rattle.settings.specs.declared.PressureUnit.the-variants.{Mbar, Torr, HPa}
 use Rattle.settings.specs.declared.Transition.the-variants.{Direct, Between}
@@ -73,14 +73,14 @@ unfoldable pub digitOf : (ℕ → Setting) → Digit → Verdict
 digitOf setting (Is d) = Set (setting d)
 digitOf setting (Digit.Refused k) = Verdict.Refused k
 
--- a number of ST: "each 1 to 20"
-unfoldable pub limitedOf : Parsed → Limited
-limitedOf Syntax = Limited.Refused (parsedNumber Syntax)
-limitedOf Range = Limited.Refused (parsedNumber Range)
-limitedOf (Value n) =
+-- a number of ST: "each 1 to 20"; VSH's and VSM's "lies from 4E-4 to 1E-2 mbar (VSH) and from 4E-4 to 2E-3 mbar (VSM)"
+unfoldable pub limitedOf : ProfileLimits → Parsed → Limited
+limitedOf limits Syntax = Limited.Refused (parsedNumber Syntax)
+limitedOf limits Range = Limited.Refused (parsedNumber Range)
+limitedOf limits (Value n) =
     first
-    (belowOf n (standard .transitionLow) ⇒ Limited.Refused 11
-    ∷ belowOf (standard .transitionHigh) n ⇒ Limited.Refused 11
+    (belowOf n (limits .transitionLow) ⇒ Limited.Refused 11
+    ∷ belowOf (limits .transitionHigh) n ⇒ Limited.Refused 11
     ∷ [])
     (Fine n)
 
@@ -95,25 +95,25 @@ betweenOf (Fine low) (Limited.Refused k) = Verdict.Refused k
 betweenOf (Limited.Refused j) (Fine high) = Verdict.Refused j
 betweenOf (Limited.Refused j) (Limited.Refused k) = Verdict.Refused (min j k)
 
--- ST: "`D` number, or `F` number `T` number", each judged by itself
-unfoldable pub endsOf : List ℕ → Ends
-endsOf s =
+-- ST: "`D` number, or `F` number `T` number", each judged by itself; VSH and VSM "accept only the `D` form"
+unfoldable pub endsOf : ProfileLimits → List ℕ → Ends
+endsOf limits s =
     let t = drop 1 s in
     let k = untilOf 84 t in
     first
-    (startsWith 68 s ⇒ One (limitedOf (numberOf t))
-    ∷ not (standard .betweenForm && startsWith 70 s) ⇒ None
+    (startsWith 68 s ⇒ One (limitedOf limits (numberOf t))
+    ∷ not (startsWith 70 s && limits .betweenForm) ⇒ None
     ∷ leb (length t) k ⇒ None
     ∷ [])
-    (Two (limitedOf (numberOf (take k t))) (limitedOf (numberOf (drop (k + 1) t))))
+    (Two (limitedOf limits (numberOf (take k t))) (limitedOf limits (numberOf (drop (k + 1) t))))
 
 unfoldable pub transitionOf : Ends → Verdict
 transitionOf None = Verdict.Refused 10
 transitionOf (One n) = directOf n
 transitionOf (Two low high) = betweenOf low high
 
-unfoldable pub transitionData : List ℕ → Verdict
-transitionData s = transitionOf (endsOf s)
+unfoldable pub transitionData : ProfileLimits → List ℕ → Verdict
+transitionData limits s = transitionOf (endsOf limits s)
 
 -- SM: "`0` off, or `4` and" a list of sources. "`0` with a list is SYNTAX"
 unfoldable pub idleList : List ℕ → Bool
@@ -136,5 +136,6 @@ streamOf s n =
     ∷ [])
     (Set (Stream (startsWith 52 s)))
 
-unfoldable pub streamData : List ℕ → Verdict
-streamData s = streamOf s (entriesNumber (drop 1 s))
+-- "an absent source stays 11 RANGE"
+unfoldable pub streamData : ProfileLimits → List ℕ → Verdict
+streamData limits s = streamOf s (entriesNumber (limits .sourceCodes) (drop 1 s))

@@ -6,7 +6,7 @@ use lib.ListN.{drop}
 use Rattle.decimal.specs.Form.{numberOf}
 use Rattle.sources.specs.Source.{listOf, Counted}
 use Rattle.sources.specs.Entries.{entriesList}
-use Rattle.settings.specs.Limits.{standard}
+use Rattle.settings.specs.Limits.{ProfileLimits, standard}
 use Rattle.settings.specs.declared.Key.{Key}
 use Rattle.settings.specs.declared.Key.the-variants.{DA, DU, C1, CM, CC, FC, ST, SM}
 use Rattle.settings.specs.declared.Setting.the-variants.{Control, Cathode, Filament}
@@ -16,15 +16,15 @@ use Rattle.forms.specs.declared.Verdict.{Verdict}
 use Rattle.forms.specs.declared.Verdict.the-variants.{Set, Refused}
 
 -- the column "Data", a line for each setting
-unfoldable pub verdictOf : Key → List ℕ → Verdict
-verdictOf DA s = addressData s
-verdictOf DU s = unitData s
-verdictOf C1 s = factorOf (numberOf s)
-verdictOf CM s = digitOf Control (digitData (standard .controlHigh) s)
-verdictOf CC s = digitOf Cathode (digitData (standard .cathodeHigh) s)
-verdictOf FC s = digitOf Filament (digitData (standard .filamentHigh) s)
-verdictOf ST s = transitionData s
-verdictOf SM s = streamData s
+unfoldable pub verdictOf : ProfileLimits → Key → List ℕ → Verdict
+verdictOf limits DA s = addressData s
+verdictOf limits DU s = unitData s
+verdictOf limits C1 s = factorOf (numberOf s)
+verdictOf limits CM s = digitOf Control (digitData (standard .controlHigh) s)
+verdictOf limits CC s = digitOf Cathode (digitData (standard .cathodeHigh) s)
+verdictOf limits FC s = digitOf Filament (digitData (standard .filamentHigh) s)
+verdictOf limits ST s = transitionData limits s
+verdictOf limits SM s = streamData limits s
 
 -- document 01's number for each verdict: 0 where the data are accepted
 abbrev pub verdictNumber : Verdict → ℕ
@@ -37,17 +37,17 @@ ifSet (Set x) list = list
 ifSet (Refused k) list = []
 
 -- the sources that an accepted write of SM lists; none otherwise
-unfoldable pub listIn : Key → List ℕ → List ℕ
-listIn DA s = []
-listIn DU s = []
-listIn C1 s = []
-listIn CM s = []
-listIn CC s = []
-listIn FC s = []
-listIn ST s = []
-listIn SM s = ifSet (streamData s) (entriesList (drop 1 s))
+unfoldable pub listIn : ProfileLimits → Key → List ℕ → List ℕ
+listIn limits DA s = []
+listIn limits DU s = []
+listIn limits C1 s = []
+listIn limits CM s = []
+listIn limits CC s = []
+listIn limits FC s = []
+listIn limits ST s = []
+listIn limits SM s = ifSet (streamData limits s) (entriesList (limits .sourceCodes) (drop 1 s))
 
-pub record Judges (key : Key) (s : List ℕ) (r : Judged) : Type 0 where
-  pub verdict : r .verdict ≡ verdictOf key s
-  pub list : listOf (r .sources) ≡ listIn key s
+pub record Judges (limits : ProfileLimits) (key : Key) (s : List ℕ) (r : Judged) : Type 0 where
+  pub verdict : r .verdict ≡ verdictOf limits key s
+  pub list : listOf (r .sources) ≡ listIn limits key s
   pub count : Counted (r .sources)

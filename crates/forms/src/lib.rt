@@ -5,7 +5,7 @@ ghost use mathlib.Core.List.{[]};
 ghost use Prim.Native.Nat.{min};
 ghost use Rattle.decimal.specs.Form.{numberOf};
 ghost use Rattle.sources.specs.Source.{listOf, Counted};
-ghost use Rattle.settings.specs.Limits.{standard};
+ghost use Rattle.settings.specs.Limits.{standard, limitsOf};
 ghost use Rattle.settings.specs.declared.Key.{Key};
 ghost use Rattle.settings.specs.declared.Setting.{Setting};
 ghost use Rattle.forms.specs.Forms.{addressData, unitData, factorIn, factorOf, digitData, digitOf, limitedOf, directOf, betweenOf, endsOf, transitionOf, transitionData, idleList, knownMode, streamOf};
@@ -164,18 +164,18 @@ pub fn judge_filament(s: &[u8]) -> Verdict
     }
 }
 
-// A number of ST, within its limits.
-pub fn in_limits(p: decimal::Parsed) -> Limited
-    ensures { λ r. ⌜ r ≡ limitedOf p ⌝ }
+// A number of ST, within the limits of the profile.
+pub fn in_limits(profile: sources::Profile, p: decimal::Parsed) -> Limited
+    ensures { λ r. ⌜ r ≡ limitedOf (limitsOf profile) p ⌝ }
 {
     match p {
         decimal::Parsed::Syntax => Limited::Refused(10),
         decimal::Parsed::Range => Limited::Refused(11),
         decimal::Parsed::Value(n) => {
-            if n.is_below(settings::Settings::TRANSITION_MIN) {
+            if n.is_below(settings::Settings::transition_min(profile)) {
                 return Limited::Refused(11);
             }
-            if settings::Settings::TRANSITION_MAX.is_below(n) {
+            if settings::Settings::transition_max(profile).is_below(n) {
                 return Limited::Refused(11);
             }
             Limited::Fine(n)
@@ -221,23 +221,26 @@ fn between(low: Limited, high: Limited) -> Verdict
     }
 }
 
-// The numbers of ST's data.
-pub fn read_ends(s: &[u8]) -> Ends
-    ensures { λ r. ⌜ r ≡ endsOf (now (s .entry)) ⌝ }
+// The numbers of ST's data. The form with F is one of the profile's, or none.
+pub fn read_ends(profile: sources::Profile, s: &[u8]) -> Ends
+    ensures { λ r. ⌜ r ≡ endsOf (limitsOf profile) (now (s .entry)) ⌝ }
 {
     let t = buffer::rest(s, 1);
     if buffer::starts_with(s, b'D') {
-        return Ends::One(in_limits(decimal::read_number(t)));
+        return Ends::One(in_limits(profile, decimal::read_number(t)));
     }
     if !buffer::starts_with(s, b'F') {
+        return Ends::None;
+    }
+    if !settings::Settings::has_between(profile) {
         return Ends::None;
     }
     let k = buffer::until(t, b'T');
     if t.len() <= k {
         return Ends::None;
     }
-    let low = in_limits(decimal::read_number(&t[..k]));
-    let high = in_limits(decimal::read_number(buffer::rest(t, k + 1)));
+    let low = in_limits(profile, decimal::read_number(&t[..k]));
+    let high = in_limits(profile, decimal::read_number(buffer::rest(t, k + 1)));
     Ends::Two(low, high)
 }
 
@@ -253,10 +256,10 @@ pub fn judge_ends(ends: Ends) -> Verdict
 }
 
 // ST.
-pub fn judge_transition(s: &[u8]) -> Verdict
-    ensures { λ r. ⌜ r ≡ transitionData (now (s .entry)) ⌝ }
+pub fn judge_transition(profile: sources::Profile, s: &[u8]) -> Verdict
+    ensures { λ r. ⌜ r ≡ transitionData (limitsOf profile) (now (s .entry)) ⌝ }
 {
-    judge_ends(read_ends(s))
+    judge_ends(read_ends(profile, s))
 }
 
 fn refused(number: u8) -> Judged
@@ -315,10 +318,10 @@ fn stream_verdict(s: &[u8], number: u8) -> Verdict
 }
 
 // SM. The list is never filled past its end, whatever the text.
-pub fn judge_stream(s: &[u8]) -> Judged
-    ensures { λ r. ⌜ Judges Key.SM (now (s .entry)) r ⌝ }
+pub fn judge_stream(profile: sources::Profile, s: &[u8]) -> Judged
+    ensures { λ r. ⌜ Judges (limitsOf profile) Key.SM (now (s .entry)) r ⌝ }
 {
-    let listed = sources::read_entries(buffer::rest(s, 1));
+    let listed = sources::read_entries(profile, buffer::rest(s, 1));
     let sources = listed.sources;
     match stream_verdict(s, listed.number) {
         Verdict::Set(x) => Judged {
@@ -338,9 +341,9 @@ fn plain(verdict: Verdict) -> Judged
     }
 }
 
-// The data of a write to one setting.
-pub fn judge(key: settings::Key, s: &[u8]) -> Judged
-    ensures { λ r. ⌜ Judges key (now (s .entry)) r ⌝ }
+// The data of a write to one setting of a gauge of this profile.
+pub fn judge(profile: sources::Profile, key: settings::Key, s: &[u8]) -> Judged
+    ensures { λ r. ⌜ Judges (limitsOf profile) key (now (s .entry)) r ⌝ }
 {
     match key {
         settings::Key::DA => plain(judge_address(s)),
@@ -349,7 +352,7 @@ pub fn judge(key: settings::Key, s: &[u8]) -> Judged
         settings::Key::CM => plain(judge_control(s)),
         settings::Key::CC => plain(judge_cathode(s)),
         settings::Key::FC => plain(judge_filament(s)),
-        settings::Key::ST => plain(judge_transition(s)),
-        settings::Key::SM => judge_stream(s),
+        settings::Key::ST => plain(judge_transition(profile, s)),
+        settings::Key::SM => judge_stream(profile, s),
     }
 }

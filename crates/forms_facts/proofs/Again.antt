@@ -10,6 +10,7 @@ use lib.ListN.{length, drop}
 use Rattle.buffer.specs.First.{pick}
 use Rattle.buffer.specs.Byte.{leading, startsWith}
 use Rattle.sources.specs.Entries.{entriesNumber, entriesList}
+use Rattle.settings.specs.Limits.{ProfileLimits}
 use Rattle.settings.specs.Sent.{streamText}
 use Rattle.settings.specs.declared.Setting.the-variants.{Stream}
 use Rattle.forms.specs.Forms.{idleList, knownMode, streamOf, streamData}
@@ -44,13 +45,13 @@ pub alone : (x : ℕ) (s : List ℕ) (b : Bool) → (b && leb 2 (suc (length s))
 alone x [] b e h = refl
 alone x (y ∷ s) b e h = absurd (let w = leb-false 2 (suc (suc (length s))) (rw h at e) in omega arith)
 
-sent : (s : List ℕ) (on : Bool) → Streams s (entriesNumber (drop 1 s)) on → streamText on (entriesList (drop 1 s)) ≡ s
+sent : (limits : ProfileLimits) (s : List ℕ) (on : Bool) → Streams s (entriesNumber (limits .sourceCodes) (drop 1 s)) on → streamText on (entriesList (limits .sourceCodes) (drop 1 s)) ≡ s
 unfolding leading startsWith idleList knownMode streamText
-sent [] on w = absurd (let z : _≡_ {A = ℕ} 0 1 = cc (w .some) in omega arith)
-sent (x ∷ s) on w = go on (w .told) (w .busy) (w .mode) (fits s (w .formed) (w .known) (w .once))
+sent limits [] on w = absurd (let z : _≡_ {A = ℕ} 0 1 = cc (w .some) in omega arith)
+sent limits (x ∷ s) on w = go on (w .told) (w .busy) (w .mode) (fits (limits .sourceCodes) s (w .formed) (w .known) (w .once))
   where
-    go : (on : Bool) → startsWith 52 (x ∷ s) ≡ on → idleList (x ∷ s) ≡ false → knownMode (x ∷ s) ≡ true → Fits s → streamText on (entriesList s) ≡ x ∷ s
-    go true e i m f = cc (eqb-true x 52 e, entries-again s f)
+    go : (on : Bool) → startsWith 52 (x ∷ s) ≡ on → idleList (x ∷ s) ≡ false → knownMode (x ∷ s) ≡ true → Fits (limits .sourceCodes) s → streamText on (entriesList (limits .sourceCodes) s) ≡ x ∷ s
+    go true e i m f = cc (eqb-true x 52 e, entries-again (limits .sourceCodes) s f)
     go false e i m f =
         let z : eqb x 48 ≡ true = rw (e, or-false) at m in
         cc (alone x s (eqb x 48) i z, eqb-true x 48 z)
@@ -58,4 +59,4 @@ sent (x ∷ s) on w = go on (w .told) (w .busy) (w .mode) (fits s (w .formed) (w
 -- "a read sends the text as accepted"
 pub sent-as-accepted : SentAsAccepted
 unfolding streamData streamOf
-sent-as-accepted s on e = sent s on (streams s (entriesNumber (drop 1 s)) on _ _ _ _ _ _ refl refl refl refl refl refl e)
+sent-as-accepted limits s on e = sent limits s on (streams s (entriesNumber (limits .sourceCodes) (drop 1 s)) on _ _ _ _ _ _ refl refl refl refl refl refl e)

@@ -1,6 +1,6 @@
 -- The worked cases, computed.
 use mathlib.Core.Path.{refl}
-use Rattle.forms_facts.specs.Theorems.{AllRight, AllSent}
+use Rattle.forms_facts.specs.Theorems.{AllRight, AllSent, AllProfiles}
 use Rattle.forms.proofs.Open.{forms-open}
 
 -- each case has the paper's answer
@@ -12,3 +12,7 @@ all-right = refl
 pub all-sent : AllSent
 unfolding forms-open
 all-sent = refl
+
+pub all-profiles : AllProfiles
+unfolding forms-open
+all-profiles = refl

@@ -9,3 +9,4 @@ pub mod Again
 pub mod Read
 pub mod Examples
 pub mod Lemmas
+pub mod Profiles

@@ -12,11 +12,12 @@ use Rattle.buffer.specs.First.{pick}
 use Rattle.buffer.specs.Byte.{isDigit, every, leading, startsWith, sameText}
 use Rattle.buffer.proofs.Laws.{within-true}
 use Rattle.buffer.proofs.Rules.{each}
-use Rattle.sources.specs.Source.{knownSources, sourceText, isSource, findSource, sourceOf, standOnce}
+use Rattle.sources.specs.Source.{sourceText, isSource, findSource, sourceOf, standOnce}
 use Rattle.sources.specs.Entries.{sourceTexts, entriesOf, isFormed, isKnown, codeOf, opens, entriesNumber}
 use Rattle.sources.specs.declared.Source.{Source}
 use Rattle.sources.specs.declared.Source.the-variants.{Known, Malformed}
 use Rattle.sources.proofs.Laws.{short-form, long-form, not-short}
+use Rattle.settings.specs.Limits.{ProfileLimits}
 use Rattle.settings.specs.declared.Setting.the-variants.{Stream}
 use Rattle.forms.specs.Forms.{idleList, knownMode, streamOf, streamData}
 use Rattle.forms.specs.Judged.{verdictOf, verdictNumber}
@@ -65,55 +66,55 @@ unfolding findSource
 find-formed [] t = refl
 find-formed (c ∷ codes) t = each (λ (r : Source). isFormed r ≡ true) (sameText t (sourceText c)) (Known c) (findSource codes t) (λ _. refl) (λ _. find-formed codes t)
 
-formed-is : (t : List ℕ) → isFormed (sourceOf knownSources t) ≡ isSource t
+formed-is : (codes : List ℕ) (t : List ℕ) → isFormed (sourceOf codes t) ≡ isSource t
 unfolding sourceOf pick
-formed-is t = go (isSource t)
+formed-is codes t = go (isSource t)
   where
-    go : (b : Bool) → isFormed (pick (not b) Malformed (findSource knownSources t)) ≡ b
-    go true = find-formed knownSources t
+    go : (b : Bool) → isFormed (pick (not b) Malformed (findSource codes t)) ≡ b
+    go true = find-formed codes t
     go false = refl
 
-all-formed : (ts : List (List ℕ)) → every isFormed (map (sourceOf knownSources) ts) ≡ every isSource ts
+all-formed : (codes : List ℕ) (ts : List (List ℕ)) → every isFormed (map (sourceOf codes) ts) ≡ every isSource ts
 unfolding every
-all-formed [] = refl
-all-formed (t ∷ ts) = rw (formed-is t, all-formed ts)
+all-formed codes [] = refl
+all-formed codes (t ∷ ts) = rw (formed-is codes t, all-formed codes ts)
 
-all-known : (ts : List (List ℕ)) → every isKnown (map (sourceOf knownSources) ts) ≡ every isKnownText ts
+all-known : (codes : List ℕ) (ts : List (List ℕ)) → every isKnown (map (sourceOf codes) ts) ≡ every (isKnownText codes) ts
 unfolding every
-all-known [] = refl
-all-known (t ∷ ts) = rw (all-known ts)
+all-known codes [] = refl
+all-known codes (t ∷ ts) = rw (all-known codes ts)
 
 -- ---- how a text of entries is judged
 
-module _ (t : List ℕ) where
+module _ (codes t : List ℕ) where
   abbrev rest : ℕ
-  rest = pick (not (standOnce (map codeOf (entriesOf t)))) 12 0
+  rest = pick (not (standOnce (map codeOf (entriesOf codes t)))) 12 0
 
   abbrev rows : (a b c : Bool) → ℕ
   rows a b c = pick a 10 (pick b 10 (pick c 11 rest))
 
-  of-form : eqb (entriesNumber t) 10 ≡ false → (opens t ≡ true) × (every isFormed (entriesOf t) ≡ true)
+  of-form : eqb (entriesNumber codes t) 10 ≡ false → (opens t ≡ true) × (every isFormed (entriesOf codes t) ≡ true)
   unfolding entriesNumber pick
-  of-form e = go (not (opens t)) (not (every isFormed (entriesOf t))) refl refl e
+  of-form e = go (not (opens t)) (not (every isFormed (entriesOf codes t))) refl refl e
     where
-      go : (a b : Bool) → not (opens t) ≡ a → not (every isFormed (entriesOf t)) ≡ b → eqb (rows a b (not (every isKnown (entriesOf t)))) 10 ≡ false
-          → (opens t ≡ true) × (every isFormed (entriesOf t) ≡ true)
+      go : (a b : Bool) → not (opens t) ≡ a → not (every isFormed (entriesOf codes t)) ≡ b → eqb (rows a b (not (every isKnown (entriesOf codes t)))) 10 ≡ false
+          → (opens t ≡ true) × (every isFormed (entriesOf codes t) ≡ true)
       go false false p q h = (not-false _ p, not-false _ q)
       go true b p q h = absurd (true≢false h)
       go false true p q h = absurd (true≢false h)
 
-  unknown : eqb (entriesNumber t) 11 ≡ true → every isKnown (entriesOf t) ≡ false
+  unknown : eqb (entriesNumber codes t) 11 ≡ true → every isKnown (entriesOf codes t) ≡ false
   unfolding entriesNumber pick
-  unknown e = go (not (opens t)) (not (every isFormed (entriesOf t))) (not (every isKnown (entriesOf t))) (not (standOnce (map codeOf (entriesOf t)))) refl e
+  unknown e = go (not (opens t)) (not (every isFormed (entriesOf codes t))) (not (every isKnown (entriesOf codes t))) (not (standOnce (map codeOf (entriesOf codes t)))) refl e
     where
-      go : (a b c d : Bool) → not (every isKnown (entriesOf t)) ≡ c → eqb (pick a 10 (pick b 10 (pick c 11 (pick d 12 0)))) 11 ≡ true → every isKnown (entriesOf t) ≡ false
+      go : (a b c d : Bool) → not (every isKnown (entriesOf codes t)) ≡ c → eqb (pick a 10 (pick b 10 (pick c 11 (pick d 12 0)))) 11 ≡ true → every isKnown (entriesOf codes t) ≡ false
       go a b true d r h = not-true _ r
       go true b false d r h = absurd (true≢false (sym h))
       go false true false d r h = absurd (true≢false (sym h))
       go false false false true r h = absurd (true≢false (sym h))
       go false false false false r h = absurd (true≢false (sym h))
 
-  by-known : opens t ≡ true → every isFormed (entriesOf t) ≡ true → entriesNumber t ≡ pick (not (every isKnown (entriesOf t))) 11 rest
+  by-known : opens t ≡ true → every isFormed (entriesOf codes t) ≡ true → entriesNumber codes t ≡ pick (not (every isKnown (entriesOf codes t))) 11 rest
   unfolding entriesNumber pick
   by-known o f = rw (o, f)
 
@@ -137,8 +138,8 @@ eleven s n false false true d e f p q r t u v h = absurd (omega arith)
 eleven s n false false false false false true p q r t u v h = absurd (omega arith)
 eleven s n false false false false false false p q r t u v h = absurd (omega arith)
 
-abbrev Outside : List ℕ → Type 0
-Outside s = (m : ℕ) × (ts : List (List ℕ)) × (s ≡ m ∷ entriesText ts) × (isDigit m ≡ true) × (every isSource ts ≡ true) × (m ≡ 48 → ⊥) × (m ≡ 52 → every isKnownText ts ≡ false)
+abbrev Outside : List ℕ → List ℕ → Type 0
+Outside codes s = (m : ℕ) × (ts : List (List ℕ)) × (s ≡ m ∷ entriesText ts) × (isDigit m ≡ true) × (every isSource ts ≡ true) × (m ≡ 48 → ⊥) × (m ≡ 52 → every (isKnownText codes) ts ≡ false)
 
 digit-first : (x : ℕ) (t : List ℕ) → eqb (leading (x ∷ t)) 0 ≡ false → isDigit x ≡ true
 unfolding leading
@@ -154,37 +155,37 @@ unfolding knownMode startsWith
 other-mode x y t (inl e) k h = true≢false (rw (eq-eqb x 48 (h ∙ e)) at k)
 other-mode x y t (inr e) k h = true≢false (rw (eq-eqb x 52 (h ∙ e), or-true) at k)
 
-not-0 : (x : ℕ) (t : List ℕ) → Eleven (x ∷ t) (entriesNumber t) → x ≡ 48 → ⊥
-not-0 x t w h = go (w .why)
+not-0 : (limits : ProfileLimits) (x : ℕ) (t : List ℕ) → Eleven (x ∷ t) (entriesNumber (limits .sourceCodes) t) → x ≡ 48 → ⊥
+not-0 limits x t w h = go (w .why)
   where
-    go : (knownMode (x ∷ t) ≡ false) ⊎ (eqb (entriesNumber t) 11 ≡ true) → ⊥
+    go : (knownMode (x ∷ t) ≡ false) ⊎ (eqb (entriesNumber (limits .sourceCodes) t) 11 ≡ true) → ⊥
     go (inl k) = other-mode x 48 t (inl refl) k h
-    go (inr n) = omega (arith, eqb-true (entriesNumber t) 11 n, no-list t (rw h at (w .busy)))
+    go (inr n) = omega (arith, eqb-true (entriesNumber (limits .sourceCodes) t) 11 n, no-list limits t (rw h at (w .busy)))
 
-not-known : (x : ℕ) (t : List ℕ) → Eleven (x ∷ t) (entriesNumber t) → x ≡ 52 → every isKnownText (sourceTexts t) ≡ false
+not-known : (limits : ProfileLimits) (x : ℕ) (t : List ℕ) → Eleven (x ∷ t) (entriesNumber (limits .sourceCodes) t) → x ≡ 52 → every (isKnownText (limits .sourceCodes)) (sourceTexts t) ≡ false
 unfolding entriesOf
-not-known x t w h = go (w .why)
+not-known limits x t w h = go (w .why)
   where
-    go : (knownMode (x ∷ t) ≡ false) ⊎ (eqb (entriesNumber t) 11 ≡ true) → every isKnownText (sourceTexts t) ≡ false
+    go : (knownMode (x ∷ t) ≡ false) ⊎ (eqb (entriesNumber (limits .sourceCodes) t) 11 ≡ true) → every (isKnownText (limits .sourceCodes)) (sourceTexts t) ≡ false
     go (inl k) = absurd (other-mode x 52 t (inr refl) k h)
-    go (inr n) = sym (all-known (sourceTexts t)) ∙ unknown t n
+    go (inr n) = sym (all-known (limits .sourceCodes) (sourceTexts t)) ∙ unknown (limits .sourceCodes) t n
 
-outside : (s : List ℕ) → Eleven s (entriesNumber (drop 1 s)) → Outside s
+outside : (limits : ProfileLimits) (s : List ℕ) → Eleven s (entriesNumber (limits .sourceCodes) (drop 1 s)) → Outside (limits .sourceCodes) s
 unfolding entriesOf leading
-outside [] w = absurd (true≢false (w .some))
-outside (x ∷ t) w =
-    let f = of-form t (w .formed) in
-    (x, sourceTexts t, rw (joined-texts t (f .0)), digit-first x t (w .some), sym (all-formed (sourceTexts t)) ∙ f .1, not-0 x t w, not-known x t w)
+outside limits [] w = absurd (true≢false (w .some))
+outside limits (x ∷ t) w =
+    let f = of-form (limits .sourceCodes) t (w .formed) in
+    (x, sourceTexts t, rw (joined-texts t (f .0)), digit-first x t (w .some), sym (all-formed (limits .sourceCodes) (sourceTexts t)) ∙ f .1, not-0 limits x t w, not-known limits x t w)
 
 -- ---- and the other way round
 
 -- how entries of the form are judged
-texts-number : (ts : List (List ℕ)) → every isSource ts ≡ true → entriesNumber (entriesText ts) ≡ pick (not (every isKnownText ts)) 11 (rest (entriesText ts))
+texts-number : (limits : ProfileLimits) (ts : List (List ℕ)) → every isSource ts ≡ true → entriesNumber (limits .sourceCodes) (entriesText ts) ≡ pick (not (every (isKnownText (limits .sourceCodes)) ts)) 11 (rest (limits .sourceCodes) (entriesText ts))
 unfolding entriesOf
-texts-number ts f =
+texts-number limits ts f =
     let e : sourceTexts (entriesText ts) ≡ ts = texts-back ts (all-lack ts f) in
-    let k : every isKnown (map (sourceOf knownSources) (sourceTexts (entriesText ts))) ≡ every isKnownText ts = ap (λ (us : List (List ℕ)). every isKnown (map (sourceOf knownSources) us)) e ∙ all-known ts in
-    by-known (entriesText ts) (opens-texts ts) (ap (λ (us : List (List ℕ)). every isFormed (map (sourceOf knownSources) us)) e ∙ all-formed ts ∙ f) ∙ ap (λ (b : Bool). pick (not b) 11 (rest (entriesText ts))) k
+    let k : every isKnown (map (sourceOf (limits .sourceCodes)) (sourceTexts (entriesText ts))) ≡ every (isKnownText (limits .sourceCodes)) ts = ap (λ (us : List (List ℕ)). every isKnown (map (sourceOf (limits .sourceCodes)) us)) e ∙ all-known (limits .sourceCodes) ts in
+    by-known (limits .sourceCodes) (entriesText ts) (opens-texts ts) (ap (λ (us : List (List ℕ)). every isFormed (map (sourceOf (limits .sourceCodes)) us)) e ∙ all-formed (limits .sourceCodes) ts ∙ f) ∙ ap (λ (b : Bool). pick (not b) 11 (rest (limits .sourceCodes) (entriesText ts))) k
 
 -- it is not 10
 not-10 : (b d : Bool) → eqb (pick b 11 (pick d 12 0)) 10 ≡ false
@@ -193,28 +194,28 @@ not-10 true d = refl
 not-10 false true = refl
 not-10 false false = refl
 
-refused : (m : ℕ) (ts : List (List ℕ)) → isDigit m ≡ true → every isSource ts ≡ true → (m ≡ 48 → ⊥) → (m ≡ 52 → every isKnownText ts ≡ false) → streamData (m ∷ entriesText ts) ≡ Refused 11
+refused : (limits : ProfileLimits) (m : ℕ) (ts : List (List ℕ)) → isDigit m ≡ true → every isSource ts ≡ true → (m ≡ 48 → ⊥) → (m ≡ 52 → every (isKnownText (limits .sourceCodes)) ts ≡ false) → streamData limits (m ∷ entriesText ts) ≡ Refused 11
 unfolding streamData streamOf leading startsWith idleList knownMode pick
-refused m ts d f z k = go (eqb m 52) refl
+refused limits m ts d f z k = go (eqb m 52) refl
   where
     n : ℕ
-    n = entriesNumber (entriesText ts)
+    n = entriesNumber (limits .sourceCodes) (entriesText ts)
 
     l : eqb (leading (entriesText ts) + 1) 0 ≡ false
     l = ne-eqb (leading (entriesText ts) + 1) 0 (λ (e : leading (entriesText ts) + 1 ≡ 0). omega arith)
 
     formed : eqb n 10 ≡ false
-    formed = rw (texts-number ts f) (not-10 (not (every isKnownText ts)) (not (standOnce (map codeOf (entriesOf (entriesText ts))))))
+    formed = rw (texts-number limits ts f) (not-10 (not (every (isKnownText (limits .sourceCodes)) ts)) (not (standOnce (map codeOf (entriesOf (limits .sourceCodes) (entriesText ts))))))
 
-    go : (b : Bool) → eqb m 52 ≡ b → streamData (m ∷ entriesText ts) ≡ Refused 11
+    go : (b : Bool) → eqb m 52 ≡ b → streamData limits (m ∷ entriesText ts) ≡ Refused 11
     go true e =
-        let eleven : n ≡ 11 = texts-number ts f ∙ rw (k (eqb-true m 52 e)) in
+        let eleven : n ≡ 11 = texts-number limits ts f ∙ rw (k (eqb-true m 52 e)) in
         rw (d, l, eleven, ne-eqb m 48 z, e)
     go false e = rw (d, l, formed, ne-eqb m 48 z, e)
 
 pub range-exactly : RangeExactly
 unfolding verdictOf streamData streamOf
-range-exactly s = (
-  λ e. outside s (eleven s (entriesNumber (drop 1 s)) _ _ _ _ _ _ refl refl refl refl refl refl (ap verdictNumber e)),
-  λ w. rw (w .2) (refused (w .0) (w .1) (w .3) (w .4) (w .5) (w .6)),
+range-exactly limits s = (
+  λ e. outside limits s (eleven s (entriesNumber (limits .sourceCodes) (drop 1 s)) _ _ _ _ _ _ refl refl refl refl refl refl (ap verdictNumber e)),
+  λ w. rw (w .2) (refused limits (w .0) (w .1) (w .3) (w .4) (w .5) (w .6)),
 )

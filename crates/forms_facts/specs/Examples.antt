@@ -1,10 +1,14 @@
--- Document 01, the column "Data", and document 02, "No repeated sources": worked cases, their answers taken from the papers.
+-- Document 01, the column "Data", and document 02, "No repeated sources" and "Hot cathode gauges": worked cases, their answers taken from the
+-- papers.
 use mathlib.Core.Bool.{Bool}
-use mathlib.Core.List.{List, [], _∷_}
+use mathlib.Core.List.{List, [], _∷_, map}
 use Prim.Native.Nat.{ℕ}
 use Prim.Native.String.{String}
 use lib.Dec.{eqb}
 use Rattle.buffer.specs.Byte.{sameText}
+use Rattle.sources.specs.declared.Profile.{Profile}
+use Rattle.sources.specs.declared.Profile.the-variants.{Standard, Vsh, Vsm}
+use Rattle.settings.specs.Limits.{limitsOf}
 use Rattle.settings.specs.Settings.{factory, putOf}
 use Rattle.settings.specs.Sent.{readText}
 use Rattle.settings.specs.declared.Key.{Key}
@@ -132,7 +136,7 @@ cases =
     ∷ []
 
 abbrev pub right : Case → Bool
-right c = eqb (verdictNumber (verdictOf (c .key) (c .text))) (c .number)
+right c = eqb (verdictNumber (verdictOf (limitsOf Standard) (c .key) (c .text))) (c .number)
 
 -- a write's data to a gauge at factory settings, and what a read then sends
 pub record Sends : Type 0 where
@@ -163,8 +167,73 @@ sends =
 
 -- what a read sends after this write
 abbrev pub sentAfter : Key → List ℕ → Verdict → List ℕ
-sentAfter key text (Set x) = readText key (putOf factory x (listIn key text))
+sentAfter key text (Set x) = readText key (putOf (factory (limitsOf Standard)) x (listIn (limitsOf Standard) key text))
 sentAfter key text (Refused k) = []
 
 abbrev pub well : Sends → Bool
-well c = sameText (sentAfter (c .key) (c .text) (verdictOf (c .key) (c .text))) (c .sent)
+well c = sameText (sentAfter (c .key) (c .text) (verdictOf (limitsOf Standard) (c .key) (c .text))) (c .sent)
+
+-- ---- the profiles
+
+-- a write's data, and the numbers that the papers give it on VSH, on VSM and on the third profile
+pub record Profiled : Type 0 where
+  pub key : Key
+  pub text : List ℕ
+  pub numbers : List ℕ
+
+abbrev pub gives : Key → String → ℕ → ℕ → ℕ → Profiled
+gives key text vsh vsm third = record { key = key; text = bytes text; numbers = vsh ∷ vsm ∷ third ∷ [] }
+
+abbrev pub profiled : List Profiled
+profiled =
+    -- both ends pass, and nothing past them
+    gives ST "D4e-4" 0 0 11
+    ∷ gives ST "D0.0004" 0 0 11
+    ∷ gives ST "D3.99999e-4" 11 11 11
+    ∷ gives ST "D1e-3" 0 0 11
+    ∷ gives ST "D2e-3" 0 0 11
+    ∷ gives ST "D2.00001e-3" 0 11 11
+    ∷ gives ST "D1e-2" 0 11 11
+    ∷ gives ST "D0.01" 0 11 11
+    ∷ gives ST "D1.00001e-2" 11 11 11
+    ∷ gives ST "D1" 11 11 0
+    ∷ gives ST "D20" 11 11 0
+    ∷ gives ST "D0" 11 11 11
+    ∷ gives ST "D-1e-3" 11 11 11
+    ∷ gives ST "D1e-3T2e-3" 10 10 10
+    ∷ gives ST "D0.0100001" 10 10 10
+    -- the `F` form is none of VSH and VSM, whatever its numbers
+    ∷ gives ST "F5T15" 10 10 0
+    ∷ gives ST "F1e-3T2e-3" 10 10 11
+    ∷ gives ST "F1e-3T1e-3" 10 10 11
+    ∷ gives ST "F" 10 10 10
+    ∷ gives ST "" 10 10 10
+    ∷ gives ST "D" 10 10 10
+    -- an absent source is unknown, before a repeat and a listed `0`
+    ∷ gives SM "4D1DT2" 0 0 0
+    ∷ gives SM "4DT2D1" 0 0 0
+    ∷ gives SM "4D1" 0 0 0
+    ∷ gives SM "4D7" 11 11 0
+    ∷ gives SM "4DT6" 11 11 0
+    ∷ gives SM "4D2" 11 11 0
+    ∷ gives SM "4D0" 12 12 12
+    ∷ gives SM "4D1D1" 12 12 12
+    ∷ gives SM "4D1D7D7" 11 11 12
+    ∷ gives SM "4D0D7" 11 11 12
+    ∷ gives SM "4D1DT2D1" 12 12 12
+    ∷ gives SM "4DT2DT2DT2DT2DT2DT2DT2DT2" 12 12 12
+    ∷ gives SM "4" 0 0 0
+    ∷ gives SM "0" 0 0 0
+    -- every other setting is the same on each
+    ∷ gives C1 "0.19" 11 11 11
+    ∷ gives C1 "8" 0 0 0
+    ∷ gives FC "3" 0 0 0
+    ∷ gives FC "4" 11 11 11
+    ∷ gives DA "017" 11 11 11
+    ∷ []
+
+abbrev pub numbersOf : Profiled → List ℕ
+numbersOf c = map (λ (p : Profile). verdictNumber (verdictOf (limitsOf p) (c .key) (c .text))) (Vsh ∷ Vsm ∷ Standard ∷ [])
+
+abbrev pub printedNumbers : Profiled → List ℕ
+printedNumbers c = c .numbers

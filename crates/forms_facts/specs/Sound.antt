@@ -2,10 +2,13 @@
 use mathlib.Core.Path.{_≡_}
 use mathlib.Core.Bool.{true, false}
 use Prim.Native.Nat.{_≤_}
+use lib.ListN.{length}
+use Rattle.buffer.specs.Byte.{every}
 use Rattle.decimal.specs.Number.{belowOf}
 use Rattle.decimal.specs.declared.Number.{Number}
 use Rattle.decimal_facts.specs.Canonical.{Canonical}
-use Rattle.settings.specs.Limits.{standard}
+use Rattle.sources.specs.Source.{knownSources, among, capacity}
+use Rattle.settings.specs.Limits.{ProfileLimits, standard}
 use Rattle.settings.specs.Settings.{Held}
 use Rattle.settings.specs.declared.Key.{Key}
 use Rattle.settings.specs.declared.Key.the-variants.{DA, DU, C1, CM, CC, FC, ST, SM}
@@ -14,33 +17,42 @@ use Rattle.settings.specs.declared.Setting.{Setting}
 use Rattle.settings.specs.declared.Setting.the-variants.{Address, PressureIn, Factor, Control, Cathode, Filament, Switch, Stream}
 use Rattle.forms_facts.specs.Codes.{GoodList}
 
--- a number of ST, "each 1 to 20", and one of the decimal form
-pub record InLimits (n : Number) : Type 0 where
+-- a number of ST within the profile's limits ("each 1 to 20"; on VSH and VSM from 4E-4 on), and one of the decimal form
+pub record InLimits (limits : ProfileLimits) (n : Number) : Type 0 where
   pub canonical : Canonical n
-  pub low : belowOf n (standard .transitionLow) ≡ false
-  pub high : belowOf (standard .transitionHigh) n ≡ false
+  pub low : belowOf n (limits .transitionLow) ≡ false
+  pub high : belowOf (limits .transitionHigh) n ≡ false
 
--- a setting within the limits of its column "Data"; "ST's F must lie strictly below T"
-abbrev pub Sound : Setting → Type 0
-Sound (Address v) = (standard .addressLow ≤ v) × (v ≤ standard .addressHigh)
-Sound (PressureIn u) = Unit {0}
-Sound (Factor h) = (standard .factorLow ≤ h) × (h ≤ standard .factorHigh)
-Sound (Control d) = d ≤ standard .controlHigh
-Sound (Cathode d) = d ≤ standard .cathodeHigh
-Sound (Filament d) = d ≤ standard .filamentHigh
-Sound (Switch (Direct n)) = InLimits n
-Sound (Switch (Between a b)) = InLimits a × InLimits b × (belowOf a b ≡ true)
-Sound (Stream on) = Unit {0}
+-- a setting within the limits of its column "Data"; the form with F is the profile's, and
+-- "ST's F must lie strictly below T"
+abbrev pub Sound : ProfileLimits → Setting → Type 0
+Sound limits (Address v) = (standard .addressLow ≤ v) × (v ≤ standard .addressHigh)
+Sound limits (PressureIn u) = Unit {0}
+Sound limits (Factor h) = (standard .factorLow ≤ h) × (h ≤ standard .factorHigh)
+Sound limits (Control d) = d ≤ standard .controlHigh
+Sound limits (Cathode d) = d ≤ standard .cathodeHigh
+Sound limits (Filament d) = d ≤ standard .filamentHigh
+Sound limits (Switch (Direct n)) = InLimits limits n
+Sound limits (Switch (Between a b)) = (limits .betweenForm ≡ true) × InLimits limits a × InLimits limits b × (belowOf a b ≡ true)
+Sound limits (Stream on) = Unit {0}
 
 -- settings within the limits, the list of sources too
-pub record SoundSettings (s : Held) : Type 0 where
-  pub address : Sound (Address (s .address))
-  pub factor : Sound (Factor (s .factor))
-  pub control : Sound (Control (s .control))
-  pub cathode : Sound (Cathode (s .cathode))
-  pub filament : Sound (Filament (s .filament))
-  pub transition : Sound (Switch (s .transition))
-  pub list : GoodList (s .list)
+pub record SoundSettings (limits : ProfileLimits) (s : Held) : Type 0 where
+  pub address : Sound limits (Address (s .address))
+  pub factor : Sound limits (Factor (s .factor))
+  pub control : Sound limits (Control (s .control))
+  pub cathode : Sound limits (Cathode (s .cathode))
+  pub filament : Sound limits (Filament (s .filament))
+  pub transition : Sound limits (Switch (s .transition))
+  pub list : GoodList (limits .sourceCodes) (s .list)
+
+-- limits that a gauge can have: `0`, which is always first on the line, is one of the sources, the others are document 01's, and each has a place
+-- in a list; the factory transition is within the limits
+pub record Proper (limits : ProfileLimits) : Type 0 where
+  pub first : among (limits .sourceCodes) 0 ≡ true
+  pub here : every (among knownSources) (limits .sourceCodes) ≡ true
+  pub few : length (limits .sourceCodes) ≤ capacity
+  pub factory : Sound limits (Switch (limits .factoryTransition))
 
 -- the value that settings hold for a command
 abbrev pub settingIn : Key → Held → Setting

@@ -1,10 +1,11 @@
 // The simulated text gauge as a program: text requests from standard input, each up to its CR, are answered on standard output. Arguments are
-// bench settings for the start, each SOURCE=VALUE.
+// bench settings for the start, each SOURCE=VALUE, and profile=vsh or profile=vsm for a gauge of that profile.
 ghost use Prim.Native.Nat.{_≤_};
 ghost use lib.ListN.{length};
 use libc::STDERR_FILENO;
 use libc::STDIN_FILENO;
 use libc::STDOUT_FILENO;
+use sources::Profile;
 
 // ---- arguments
 
@@ -47,11 +48,36 @@ fn set(g: gauge_rules::Gauge, word: &[u8], b: readings::Bench) -> Started {
     Started { gauge, ok: true }
 }
 
+// Whether a word names a profile. The third has no word.
+fn is_named(word: &[u8], profile: Profile) -> bool {
+    match profile {
+        Profile::Standard => false,
+        Profile::Vsh => buffer::is_same(word, b"profile=vsh"),
+        Profile::Vsm => buffer::is_same(word, b"profile=vsm"),
+    }
+}
+
+// The gauge, where a word names its profile.
+fn with_profile(g: gauge_rules::Gauge, word: &[u8]) -> Started {
+    let profile = g.profile;
+    if !is_named(word, profile) {
+        return refused(
+            g,
+            word,
+            b"' names no profile, or a second one: profile=vsh or profile=vsm\n",
+        );
+    }
+    Started { gauge: g, ok: true }
+}
+
 // The gauge with the setting of one argument.
 fn with_word(g: gauge_rules::Gauge, word: &[u8]) -> Started {
     let n = buffer::until(word, b'=');
     if word.len() <= n {
         return malformed(g, word);
+    }
+    if buffer::is_same(&word[..n], b"profile") {
+        return with_profile(g, word);
     }
     match bench_words::read_setting(&word[..n], buffer::rest(word, n + 1)) {
         bench_words::Worded::Is(b) => set(g, word, b),
@@ -69,10 +95,40 @@ fn with_argument(g: gauge_rules::Gauge, i: usize) -> Started {
     with_word(g, &word[..n])
 }
 
-// The gauge at its start, with the settings of all arguments.
+// The profile that argument i names, or the third.
+fn profile_at(i: usize) -> Profile {
+    let mut word = [0u8; 256];
+    let n = os::arg(i, &mut word);
+    if os::errno() != 0 {
+        return Profile::Standard;
+    }
+    if is_named(&word[..n], Profile::Vsh) {
+        return Profile::Vsh;
+    }
+    if is_named(&word[..n], Profile::Vsm) {
+        return Profile::Vsm;
+    }
+    Profile::Standard
+}
+
+// The profile that the arguments name first, or the third.
+fn chosen(count: usize) -> Profile {
+    let mut i: usize = 1;
+    while i < count {
+        match profile_at(i) {
+            Profile::Standard => (),
+            Profile::Vsh => return Profile::Vsh,
+            Profile::Vsm => return Profile::Vsm,
+        }
+        i += 1;
+    }
+    Profile::Standard
+}
+
+// The gauge at its start, with the profile and the settings of all arguments.
 fn start() -> Started {
-    let mut g = gauge_rules::Gauge::at_start();
     let count = os::arg_count();
+    let mut g = gauge_rules::Gauge::at_start(chosen(count));
     let mut i: usize = 1;
     while i < count {
         let s = with_argument(g, i);

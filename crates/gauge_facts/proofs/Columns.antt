@@ -30,7 +30,7 @@ use Rattle.gauge_table.proofs.DecidedV2.{decided-v2}
 use Rattle.gauge_facts.specs.Columns.{cathodeHeld, sensorFaulty}
 use Rattle.gauge_facts.specs.Theorems.{NumberOnBytes}
 use Rattle.gauge_facts.proofs.Lemmas.Refuses.{RefusesV2, refuses-v2}
-use Rattle.gauge_facts.proofs.Lemmas.Asking.{asked-exactly}
+use Rattle.gauge_facts.proofs.Lemmas.Asking.{asked-form}
 
 changes-is : (r : RequestV2) → changesCathode r ≡ (sameText (commandText (commandIn r)) (bytes "CC") && not (eqb (accessOf r) readCode))
 unfolding changesCathode commandText commandIn accessOf sameText
@@ -101,20 +101,20 @@ module _ (g : State) (h : HeadV2) (d : List ℕ) where
 
   -- bytes that pass the rows up to LOGIC in the data ask a typed request
   typed : wrongCode (h .access) ≡ false → unknownCommand (commandOf (h .first) (h .second)) ≡ false → lacks (h .access) (commandOf (h .first) (h .second)) ≡ false
-      → badFormV2 (h .access) (commandOf (h .first) (h .second)) d ≡ false → outsideV2 (h .access) (commandOf (h .first) (h .second)) d ≡ false
-      → againstLogic (h .access) (commandOf (h .first) (h .second)) d ≡ false → (r : RequestV2) × (askV2 h d ≡ Asks r)
+      → badFormV2 (g .limits) (h .access) (commandOf (h .first) (h .second)) d ≡ false → outsideV2 (g .limits) (h .access) (commandOf (h .first) (h .second)) d ≡ false
+      → againstLogic (g .limits) (h .access) (commandOf (h .first) (h .second)) d ≡ false → (r : RequestV2) × (askV2 (g .limits) h d ≡ Asks r)
   unfolding pick breaksRule asksFaulty decidedV2
-  typed c u l f o e = go (askV2 h d) (refuses-v2 h d) (rw (c, u, l, f, o, e) at (decided-v2 g h d))
+  typed c u l f o e = go (askV2 (g .limits) h d) (refuses-v2 (g .limits) h d) (rw (c, u, l, f, o, e) at (decided-v2 g h d))
     where
       go : (ask : AskV2) → RefusesV2 ask → pick (breaksRule g ask) 12 (pick (asksFaulty g ask) 13 0) ≡ decidedV2 g ask → (r : RequestV2) × (ask ≡ Asks r)
       go (Asks r) n z = (r, refl)
       go (Refused k) n z = absurd (n (sym z))
 
-  last : (r : RequestV2) → askV2 h d ≡ Asks r
-      → _≡_ {A = ℕ} (pick (breaksRule g (askV2 h d)) 12 (pick (asksFaulty g (askV2 h d)) 13 0)) (pick (cathodeHeld g (h .access) theCommand) 12 (pick (sensorFaulty (g .readings) (h .access) theCommand) 13 0))
+  last : (r : RequestV2) → askV2 (g .limits) h d ≡ Asks r
+      → _≡_ {A = ℕ} (pick (breaksRule g (askV2 (g .limits) h d)) 12 (pick (asksFaulty g (askV2 (g .limits) h d)) 13 0)) (pick (cathodeHeld g (h .access) theCommand) 12 (pick (sensorFaulty (g .readings) (h .access) theCommand) 13 0))
   unfolding breaksRule asksFaulty
   last r e =
-      let w = asked-exactly h d r (askList h d) .0 (e, refl) in
+      let w = asked-form (g .limits) h d r (askList (g .limits) h d) e refl in
       rw (e, w .0, w .1, changes-is r, faulty-is (g .readings) r)
 
 -- the table's number of V2 bytes

@@ -23,6 +23,7 @@ use Rattle.requests.specs.declared.AskV2.{AskV2}
 use Rattle.requests.specs.declared.RequestV1.{RequestV1}
 use Rattle.requests.specs.declared.AskV1.{AskV1}
 use Rattle.request_texts.specs.RequestText.{accessOf, commandIn, headFor, letterV1, headForV1}
+use Rattle.forms_facts.specs.Sound.{Proper}
 use Rattle.gauge_rules.specs.State.{State}
 use Rattle.gauge_rules.specs.RulesV2.{grantV2}
 use Rattle.gauge_rules_v1.specs.RulesV1.{grantV1}
@@ -61,15 +62,15 @@ module _ (g : State) (room : ℕ) (s : List ℕ) where
       let q : at s 5 ≡ at (commandText (commandIn r)) 1 = ap (λ (t : List ℕ). at t 1) e in
       rw (a, c, p, q)
 
-  grants : (r : RequestV2) → numberOf g room s ≡ 0 → isV1 s ≡ false → askedV2 s ≡ AskV2.Asks r → grantV2 g r ≡ 0
+  grants : (r : RequestV2) → numberOf g room s ≡ 0 → isV1 s ≡ false → askedV2 (g .limits) s ≡ AskV2.Asks r → grantV2 g r ≡ 0
   unfolding decidedV2
   grants r z l e = rw e at (decided-as-v2 g room s z l)
 
-  to : (r : RequestV2) (list : List ℕ) → isV1 s ≡ false → numberOf g room s ≡ 0 → askedV2 s ≡ AskV2.Asks r → askedList s ≡ list → (d : List ℕ) × Satisfies g room s r list d
+  to : Proper (g .limits) → (r : RequestV2) (list : List ℕ) → isV1 s ≡ false → numberOf g room s ≡ 0 → askedV2 (g .limits) s ≡ AskV2.Asks r → askedList (g .limits) s ≡ list → (d : List ℕ) × Satisfies g room s r list d
   unfolding headV2
-  to r list l z e f =
+  to ok r list l z e f =
       let p = passed g room s z in
-      let w = asked-exactly (headV2 s) (dataFrom 8 s) r list .0 (e, f) in
+      let w = asked-exactly (g .limits) ok (headV2 s) (dataFrom 8 s) r list .0 (e, f) in
       let h = head-is r (own-address p) (w .0) (w .1) in
       let t = frame-exactly-v2 s (headV2 s) (dataFrom 8 s) .0 (is-frame l p, refl) in
       (dataFrom 8 s, record { room-fits = ltb-false room answerRoom (p .room-fits); frame = rw h at (t .1); formed = w .2; allowed = granted-exactly g r .0 (grants r z l e) })
@@ -80,7 +81,7 @@ module _ (g : State) (room : ℕ) (s : List ℕ) where
     sendable : SendableV2 (headFor (g .settings .address) r) d
     sendable =
         let a = f .settings .address in
-        carried (g .settings .address) r list d (within-in 1 999 (g .settings .address) (omega (arith, a .0)) (omega (arith, a .1))) (h .formed)
+        carried (g .limits) (f .proper) (g .settings .address) r list d (within-in 1 999 (g .settings .address) (omega (arith, a .0)) (omega (arith, a .1))) (h .formed)
 
     read : (frameOf s ≡ V2 (headFor (g .settings .address) r)) × (dataFrom 8 s ≡ d)
     read = frame-exactly-v2 s (headFor (g .settings .address) r) d .1 (sendable, h .frame)
@@ -88,9 +89,9 @@ module _ (g : State) (room : ℕ) (s : List ℕ) where
     told : Tells s (V2 (headFor (g .settings .address) r))
     told = rw (read .0) at (tells s)
 
-    asked : (askV2 (headFor (g .settings .address) r) d ≡ AskV2.Asks r) × (askList (headFor (g .settings .address) r) d ≡ list)
+    asked : (askV2 (g .limits) (headFor (g .settings .address) r) d ≡ AskV2.Asks r) × (askList (g .limits) (headFor (g .settings .address) r) d ≡ list)
     unfolding headFor
-    asked = asked-exactly (headFor (g .settings .address) r) d r list .1 (refl, two, h .formed)
+    asked = asked-exactly (g .limits) (f .proper) (headFor (g .settings .address) r) d r list .1 (refl, two, h .formed)
       where
         two : at (commandText (commandIn r)) 0 ∷ at (commandText (commandIn r)) 1 ∷ [] ≡ commandText (commandIn r)
         two = command-two (commandIn r)
@@ -101,17 +102,17 @@ module _ (g : State) (room : ℕ) (s : List ℕ) where
         let e : g .settings .address ≡ addressOf s = ap (λ (k : HeadV2). k .address) (told .3) in
         rw (eq-eqb (addressOf s) (g .settings .address) (sym e))
 
-    from : (isV1 s ≡ false) × (numberOf g room s ≡ 0) × (askedV2 s ≡ AskV2.Asks r) × (askedList s ≡ list)
+    from : (isV1 s ≡ false) × (numberOf g room s ≡ 0) × (askedV2 (g .limits) s ≡ AskV2.Asks r) × (askedList (g .limits) s ≡ list)
     unfolding decidedV2
     from =
-        let e : askedV2 s ≡ AskV2.Asks r = rw (← (told .3), read .1) (asked .0) in
-        let l : askedList s ≡ list = rw (← (told .3), read .1) (asked .1) in
+        let e : askedV2 (g .limits) s ≡ AskV2.Asks r = rw (← (told .3), read .1) (asked .0) in
+        let l : askedList (g .limits) s ≡ list = rw (← (told .3), read .1) (asked .1) in
         let n = number-v2 s g room (le-ltb room answerRoom (h .room-fits)) (told .0) own (told .1) (told .2) in
         (told .1, rw (n, e) (granted-exactly g r .1 (h .allowed)), e, l)
 
 -- V2 bytes are accepted as the request r, with these sources, exactly if they satisfy the paper for it
 pub accepted-as : AcceptedAs
-accepted-as g room s r list f = (λ w. to g room s r list (w .0) (w .1) (w .2) (w .3), λ w. from g room s r list (w .0) f (w .1))
+accepted-as g room s r list f = (λ w. to g room s (f .proper) r list (w .0) (w .1) (w .2) (w .3), λ w. from g room s r list (w .0) f (w .1))
 
 -- V2 bytes are accepted exactly if they satisfy the paper for some request
 pub accepted-v2-exactly : AcceptedV2Exactly
@@ -120,8 +121,8 @@ accepted-v2-exactly g room s f = (there, λ w. let v = from g room s (w .0) (w .
     there : (isV1 s ≡ false) × (numberOf g room s ≡ 0) → (r : RequestV2) × (list : List ℕ) × (d : List ℕ) × Satisfies g room s r list d
     there w =
         let q = asks-v2 g room s (w .1) (w .0) in
-        let t = to g room s (q .0) (askedList s) (w .0) (w .1) (q .1) refl in
-        (q .0, askedList s, t .0, t .1)
+        let t = to g room s (f .proper) (q .0) (askedList (g .limits) s) (w .0) (w .1) (q .1) refl in
+        (q .0, askedList (g .limits) s, t .0, t .1)
 
 -- an accepted request is answered from the gauge's address
 pub old-address : OldAddress

@@ -19,7 +19,7 @@ use Rattle.frame_writer.specs.Written.{frameV1, frameV2}
 use Rattle.error_texts.specs.Texts.{errorOf}
 use Rattle.frame_writer.specs.Error.{errorDataV1}
 use Rattle.error_texts.specs.declared.ErrorText.the-variants.{Logic, Range}
-use Rattle.forms_facts.proofs.Lemmas.Lists.{at-most-six}
+use Rattle.forms_facts.proofs.Lemmas.Lists.{at-most-entries}
 use Rattle.sources.specs.Source.{capacity}
 use Rattle.printed_facts.proofs.Fits.{error-le, read-le}
 use Rattle.readings.specs.Reading.{valueText}
@@ -150,7 +150,7 @@ reply-fits g few room s =
 
 -- in every state that calls reach
 pub sound-fits : (g : State) → SoundState g → (room : ℕ) (s : List ℕ) → length (replyOf g s (numberOf g room s)) ≤ 64
-sound-fits g f = reply-fits g (omega (arith, at-most-six (g .settings .list) (f .settings .list)))
+sound-fits g f = reply-fits g (omega (arith, at-most-entries (g .limits) (f .proper) (g .settings .list) (f .settings .list), f .proper .few))
 
 -- and it lies within the memory lent: below 64 bytes there is none
 pub within-lent : WithinLent

@@ -1,6 +1,7 @@
 -- The proofs of specs/Theorems, and what they rest on.
 pub mod Accepted
 pub mod Refused
+pub mod Profile
 pub mod Kept
 pub mod Typed
 pub mod Exactly

@@ -74,4 +74,5 @@ same-fault g h e (Refused k) = refl
 -- of what a gauge holds, its number depends on DA, CM, the readings and the unlock alone
 pub same-number : SameNumber
 unfolding numberOf lockedWrite measuresFaulty
-same-number g h address control readings unlocked room s = rw (same-rule g h control (askedV2 s), same-fault g h readings (askedV2 s), address, readings, unlocked)
+same-number g h limits address control readings unlocked room s =
+    rw (same-rule g h control (askedV2 (g .limits) s), same-fault g h readings (askedV2 (g .limits) s), address, readings, unlocked, limits)

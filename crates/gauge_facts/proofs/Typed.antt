@@ -55,7 +55,7 @@ module _ (g : State) (room : ℕ) (s : List ℕ) (z : numberOf g room s ≡ 0) w
   pub decided-as-v1 : isV1 s ≡ true → decidedV1 g (askedV1 s) ≡ 0
   decided-as-v1 l = let p = passed in rw (number-v1 s g room (p .room-fits) (p .framed) (p .own) l) at z
 
-  pub decided-as-v2 : isV1 s ≡ false → decidedV2 g (askedV2 s) ≡ 0
+  pub decided-as-v2 : isV1 s ≡ false → decidedV2 g (askedV2 (g .limits) s) ≡ 0
   decided-as-v2 l = let p = passed in rw (number-v2 s g room (p .room-fits) (p .framed) (p .own) l (p .counted l)) at z
 
 -- number 0 means that the bytes ask a typed request
@@ -69,7 +69,7 @@ asks-v1 g room s z l = go (askedV1 s) (refuses-v1 (at s 3) _) (decided-as-v1 g r
 
 pub asks-v2 : AsksV2
 unfolding decidedV2
-asks-v2 g room s z l = go (askedV2 s) (refuses-v2 _ _) (decided-as-v2 g room s z l)
+asks-v2 g room s z l = go (askedV2 (g .limits) s) (refuses-v2 _ _ _) (decided-as-v2 g room s z l)
   where
     go : (a : AskV2) → RefusesV2 a → decidedV2 g a ≡ 0 → (r : RequestV2) × (a ≡ AskV2.Asks r)
     go (AskV2.Asks r) n e = (r, refl)
@@ -101,7 +101,7 @@ module _ (g : State) (s : List ℕ) where
   accepted-v2-some h r = frame-v2-some _ _
 
   -- a number other than 1 to 5, and what is asked where it is 0
-  reply-some : (k : ℕ) → (eqb k 0 ≡ true → isV1 s ≡ true → (r : RequestV1) × (askedV1 s ≡ AskV1.Asks r)) → (eqb k 0 ≡ true → isV1 s ≡ false → (r : RequestV2) × (askedV2 s ≡ AskV2.Asks r))
+  reply-some : (k : ℕ) → (eqb k 0 ≡ true → isV1 s ≡ true → (r : RequestV1) × (askedV1 s ≡ AskV1.Asks r)) → (eqb k 0 ≡ true → isV1 s ≡ false → (r : RequestV2) × (askedV2 (g .limits) s ≡ AskV2.Asks r))
       → within 1 5 k ≡ false → replyOf g s k ≡ [] → ⊥
   unfolding replyOf pick
   reply-some k v1 v2 e h =

@@ -40,16 +40,16 @@ commandFits s = not (test s (unknownLetter (at s 3)) (unknownCommand (named s)))
 abbrev pub accessFits : List ℕ → Bool
 accessFits s = not (test s false (wrongCode (at s 3))) && not (test s false (lacks (at s 3) (named s)))
 
--- 10, 11 and 12: data of the command's form, no number or source outside, ST's F strictly below T, each source of SM's list once and no `0`
-abbrev pub dataFits : List ℕ → Bool
-dataFits s =
-    not (test s (badFormV1 (at s 3) (dataFrom 4 s)) (badFormV2 (at s 3) (named s) (dataFrom 8 s)))
-    && (not (test s (outsideV1 (at s 3) (dataFrom 4 s)) (outsideV2 (at s 3) (named s) (dataFrom 8 s)))
-    && not (test s false (againstLogic (at s 3) (named s) (dataFrom 8 s))))
+-- 10, 11 and 12: data of the command's form, no number outside and no source that the profile lacks, ST's F strictly below T, each source of SM's list once and no `0`
+abbrev pub dataFits : State → List ℕ → Bool
+dataFits g s =
+    not (test s (badFormV1 (at s 3) (dataFrom 4 s)) (badFormV2 (g .limits) (at s 3) (named s) (dataFrom 8 s)))
+    && (not (test s (outsideV1 (at s 3) (dataFrom 4 s)) (outsideV2 (g .limits) (at s 3) (named s) (dataFrom 8 s)))
+    && not (test s false (againstLogic (g .limits) (at s 3) (named s) (dataFrom 8 s))))
 
 -- 12 and 13: for V1 not a write while locked; for V2 not CC written or restored while CM is 1; no faulty sensor asked for
 abbrev pub stateFits : State → List ℕ → Bool
 stateFits g s =
     not (test s (lockedWrite g (at s 3) (dataFrom 4 s)) false)
-    && (not (test s false (breaksRule g (askedV2 s)))
-    && not (test s (measuresFaulty g (at s 3)) (asksFaulty g (askedV2 s))))
+    && (not (test s false (breaksRule g (askedV2 (g .limits) s)))
+    && not (test s (measuresFaulty g (at s 3)) (asksFaulty g (askedV2 (g .limits) s))))

@@ -1,17 +1,22 @@
--- Document 01's rules of the text gauge at work: worked cases, their numbers and replies taken from an independent reading of the paper.
+-- Document 01's rules of the text gauge, and document 02's profiles, at work: worked cases, their numbers and replies taken from an independent reading of the
+-- papers.
 use mathlib.Core.Bool.{Bool, false}
 use mathlib.Core.List.{List, [], _∷_, _++_, map}
 use Prim.Native.Nat.{ℕ}
 use Prim.Native.String.{String}
 use Rattle.buffer.specs.Answer.{Answer, silent}
 use Rattle.buffer.specs.Quoted.{bytes}
+use Rattle.sources.specs.declared.Profile.{Profile}
+use Rattle.sources.specs.declared.Profile.the-variants.{Standard, Vsh, Vsm}
+use Rattle.settings.specs.Limits.{limitsOf}
 use Rattle.settings.specs.declared.Key.the-variants.{DA, DU, C1, CM, CC, FC, ST, SM}
-use Rattle.readings.specs.Bench.{benchOf, benchNumber}
+use Rattle.readings.specs.Bench.{benchNumber}
 use Rattle.readings.specs.declared.Bench.{Bench}
 use Rattle.readings.specs.declared.Bench.the-variants.{Reads, UnderRange, OverRange, Faulty, Status}
 use Rattle.readings_facts.specs.Examples.{decimals, below, zeros}
 use Rattle.requests.specs.declared.Command.the-variants.{FS, Of}
 use Rattle.line.specs.Line.{lineAnswer}
+use Rattle.gauge_rules.specs.BenchIn.{benchIn}
 use Rattle.gauge_rules.specs.RulesV2.{sentText}
 use Rattle.gauge_rules.specs.State.{State, fresh}
 use Rattle.gauge_table.specs.After.{answerOf as tableAnswer, nextOf, benched}
@@ -30,12 +35,12 @@ ask text = lending 64 text
 
 abbrev pub answered : State → Call → Answer
 answered g (Request room s) = tableAnswer g room s
-answered g (SetBench b) = silent (benchNumber (benchOf b))
-answered g (Line room) = lineAnswer room (g .settings) (g .readings)
+answered g (SetBench b) = silent (benchNumber (benchIn (g .limits) b))
+answered g (Line room) = lineAnswer (g .limits) room (g .settings) (g .readings)
 
 abbrev pub after : State → Call → State
 after g (Request room s) = nextOf g room s
-after g (SetBench b) = benched g (benchOf b)
+after g (SetBench b) = benched g (benchIn (g .limits) b)
 after g (Line room) = g
 
 -- ---- a call to a gauge that was fresh before the calls given
@@ -63,7 +68,7 @@ following g [] = g
 following g (c ∷ cs) = following (after g c) cs
 
 abbrev pub given : Case → Answer
-given c = answered (following fresh (c .before)) (c .call)
+given c = answered (following (fresh (limitsOf Standard)) (c .before)) (c .call)
 
 abbrev pub paper : Case → Answer
 paper c = record { number = c .number; reply = c .reply }
@@ -289,12 +294,16 @@ abbrev pub holding : State → Holding
 holding g = record { texts = map (sentText g) (Of DA ∷ Of DU ∷ Of C1 ∷ Of CM ∷ Of CC ∷ Of FC ∷ Of ST ∷ Of SM ∷ FS ∷ []); unlocked = g .unlocked }
 
 pub record Course : Type 0 where
+  pub profile : Profile
   pub steps : List Step
   pub end : Holding
 
 -- what a gauge that ends locked holds at the end: DA, DU, C1, CM, CC, FC, ST, SM and FS
+abbrev pub courseOn : Profile → List Step → List String → Course
+courseOn p steps texts = record { profile = p; steps = steps; end = record { texts = map bytes texts; unlocked = false } }
+
 abbrev pub course : List Step → List String → Course
-course steps texts = record { steps = steps; end = record { texts = map bytes texts; unlocked = false } }
+course steps texts = record { profile = Standard; steps = steps; end = record { texts = map bytes texts; unlocked = false } }
 
 -- the sequence with the answers that the calls get, and what the gauge then holds
 unfoldable pub played : State → List Step → List Step
@@ -306,7 +315,7 @@ ended g [] = g
 ended g (c ∷ cs) = ended (after g (c .call)) cs
 
 abbrev pub run : Course → Course
-run c = record { steps = played fresh (c .steps); end = holding (ended fresh (c .steps)) }
+run c = record { profile = c .profile; steps = played (fresh (limitsOf (c .profile))) (c .steps); end = holding (ended (fresh (limitsOf (c .profile))) (c .steps)) }
 
 -- the unlock across addresses and protocols
 abbrev pub unlocking : Course
@@ -431,8 +440,49 @@ refusedBench =
     ∷ [])
     ("001" ∷ "mbar" ∷ "1.00" ∷ "1" ∷ "1" ∷ "0" ∷ "D1e0" ∷ "0" ∷ "0" ∷ [])
 
+-- document 02, "Hot cathode gauges": factory value, restore, streams, bench and longest line of VSH and of VSM
+abbrev pub hotSteps : List Step
+hotSteps =
+    asks "0010ST00H\r" 0 "0011ST05D1e-3H\r"
+    ∷ asks "0012ST05D2e-3J\r" 0 "0013ST00K\r"
+    ∷ asks "0010ST00H\r" 0 "0011ST05D2e-3I\r"
+    ∷ asks "0014ST00L\r" 0 "0015ST00M\r"
+    ∷ asks "0010ST00H\r" 0 "0011ST05D1e-3H\r"
+    ∷ asks "0012ST05F5T15D\r" 10 "0017ST06SYNTAX|\r"
+    ∷ asks "0012ST02D1A\r" 11 "0017ST06_RANGEa\r"
+    ∷ asks "0012SM034D7u\r" 11 "0017SM06_RANGEZ\r"
+    ∷ asks "0012SM054D1D1f\r" 12 "0017SM06_LOGIC[\r"
+    ∷ asks "0010MV00D\r" 0 "0011MV031e0N\r"
+    ∷ asks "0010T200g\r" 0 "0011T20520.00]\r"
+    ∷ asks "0012SM064D1DT2|\r" 0 "0013SM00D\r"
+    ∷ asks "0010SM00A\r" 0 "0011SM064D1DT2{\r"
+    ∷ sets (Reads 0 (decimals 123456 14)) 0
+    ∷ sets (Reads 1 (decimals 123456 14)) 0
+    ∷ sets (Reads 8 (below 4000 2)) 0
+    ∷ sets (Status 3) 0
+    ∷ sets (Reads 2 (decimals 1 0)) 15
+    ∷ sets (Reads 6 (decimals 1 0)) 15
+    ∷ sets (Reads 7 (decimals 1 0)) 15
+    ∷ sets (Reads 9 (decimals 20 0)) 15
+    ∷ sets (Faulty 7) 15
+    ∷ sets (UnderRange 2) 15
+    ∷ sets (Status 4) 15
+    ∷ streams 29 1 ""
+    ∷ streams 30 0 "1.23456e-9;1.23456e-9;-40.00q\r"
+    ∷ []
+
+abbrev pub hotTexts : List String
+hotTexts = "001" ∷ "mbar" ∷ "1.00" ∷ "1" ∷ "1" ∷ "0" ∷ "D1e-3" ∷ "4D1DT2" ∷ "3" ∷ []
+
+-- their upper ends differ
+abbrev pub upperEnds : List Course
+upperEnds =
+    courseOn Vsh (asks "0012ST05D1e-2H\r" 0 "0013ST00K\r" ∷ []) ("001" ∷ "mbar" ∷ "1.00" ∷ "1" ∷ "1" ∷ "0" ∷ "D1e-2" ∷ "0" ∷ "0" ∷ [])
+    ∷ courseOn Vsm (asks "0012ST05D1e-2H\r" 11 "0017ST06_RANGEa\r" ∷ []) ("001" ∷ "mbar" ∷ "1.00" ∷ "1" ∷ "1" ∷ "0" ∷ "D1e-3" ∷ "0" ∷ "0" ∷ [])
+    ∷ []
+
 abbrev pub cases : List Case
 cases = order ++ settings ++ overV1 ++ lines
 
 abbrev pub courses : List Course
-courses = unlocking ∷ lastWins ∷ cathode ∷ transition ∷ longest ∷ faulty ∷ refusedBench ∷ []
+courses = unlocking ∷ lastWins ∷ cathode ∷ transition ∷ longest ∷ faulty ∷ refusedBench ∷ courseOn Vsh hotSteps hotTexts ∷ courseOn Vsm hotSteps hotTexts ∷ upperEnds

@@ -6,6 +6,7 @@ use Prim.Native.Nat.{ℕ, _≤_}
 use lib.ListN.{length}
 use Rattle.buffer.specs.Byte.{isDigit, every, numeral}
 use Rattle.buffer.specs.Quoted.{bytes}
+use Rattle.settings.specs.Limits.{ProfileLimits}
 use Rattle.settings.specs.declared.Key.the-variants.{CC}
 use Rattle.settings.specs.declared.Setting.the-variants.{Factor}
 use Rattle.readings.specs.Reading.{faultyPressure, faultyTemperature}
@@ -33,11 +34,11 @@ RoomFits room = answerRoom ≤ room
 -- ---- V2
 
 -- the data of a request with this list of sources beside it: none with a read or a default, which the command must have; with a write the
--- setting's form, and both within the limits
-abbrev pub DataFor : RequestV2 → List ℕ → List ℕ → Type 0
-DataFor (Read c) list d = (d ≡ []) × (list ≡ [])
-DataFor (Restore c) list d = (canRestore c ≡ true) × (d ≡ []) × (list ≡ [])
-DataFor (Set x) list d = FormWith d x list × Sound x × GoodList list
+-- setting's form, and both within the profile's limits
+abbrev pub DataFor : ProfileLimits → RequestV2 → List ℕ → List ℕ → Type 0
+DataFor limits (Read c) list d = (d ≡ []) × (list ≡ [])
+DataFor limits (Restore c) list d = (canRestore c ≡ true) × (d ≡ []) × (list ≡ [])
+DataFor limits (Set x) list d = FormWith limits d x list × Sound limits x × GoodList (limits .sourceCodes) list
 
 -- what the gauge's state allows
 pub record Allowed (g : State) (r : RequestV2) : Type 0 where
@@ -48,15 +49,15 @@ pub record Allowed (g : State) (r : RequestV2) : Type 0 where
   pub temperature : r ≡ Read T2 → faultyTemperature (g .readings .t2) ≡ false
 
 -- the sources that a V2 frame lists
-abbrev pub askedList : List ℕ → List ℕ
-askedList s = askList (headV2 s) (dataFrom 8 s)
+abbrev pub askedList : ProfileLimits → List ℕ → List ℕ
+askedList limits s = askList limits (headV2 s) (dataFrom 8 s)
 
 -- the memory lent, the bytes and the state satisfy the paper, for the request r with this list of sources beside it: the frame has the
 -- gauge's address, the request's access code and command, and data d
 pub record Satisfies (g : State) (room : ℕ) (s : List ℕ) (r : RequestV2) (list d : List ℕ) : Type 0 where
   pub room-fits : RoomFits room
   pub frame : s ≡ frameV2 (headFor (g .settings .address) r) d
-  pub formed : DataFor r list d
+  pub formed : DataFor (g .limits) r list d
   pub allowed : Allowed g r
 
 -- ---- V1
@@ -79,7 +80,7 @@ abbrev pub AllowedV1 : State → RequestV1 → Type 0
 AllowedV1 g Measure = faultyPressure (g .readings .p0) ≡ false
 AllowedV1 g ReadFactor = Unit {0}
 AllowedV1 g Unlock = Unit {0}
-AllowedV1 g (SetFactor n) = (g .unlocked ≡ true) × Sound (Factor n)
+AllowedV1 g (SetFactor n) = (g .unlocked ≡ true) × Sound (g .limits) (Factor n)
 AllowedV1 g ReadUnit = Unit {0}
 AllowedV1 g (SetUnit u) = Unit {0}
 

@@ -13,12 +13,17 @@ use Rattle.frame_writer.specs.Written.{frameV2}
 use Rattle.decimal.specs.Number.{belowOf}
 use Rattle.decimal.specs.declared.Number.{Number}
 use Rattle.sources.specs.Source.{capacity}
-use Rattle.settings.specs.Limits.{standard, longestLine}
+use Rattle.sources.specs.declared.Profile.{Profile}
+use Rattle.settings.specs.Limits.{ProfileLimits, limitsOf, longestLine}
 use Rattle.forms_facts.specs.Codes.{GoodList}
+use Rattle.forms_facts.specs.Sound.{Proper}
 use Rattle.settings.specs.Settings.{Held}
 use Rattle.settings.specs.declared.Transition.the-variants.{Between}
-use Rattle.readings.specs.Bench.{benchOf}
 use Rattle.readings.specs.Reading.{valueText}
+use Rattle.readings.specs.Bench.{benchOf}
+use Rattle.readings.specs.There.{names}
+use Rattle.readings.specs.declared.Reading.{Reading}
+use Rattle.readings.specs.declared.Benched.the-variants.{Accepted}
 use Rattle.readings.specs.declared.Bench.{Bench}
 use Rattle.readings.specs.declared.Readings.{Readings}
 use Rattle.readings_facts.specs.Sound.{SoundReadings}
@@ -29,6 +34,7 @@ use Rattle.requests.specs.declared.RequestV1.{RequestV1}
 use Rattle.requests.specs.declared.AskV1.{AskV1}
 use Rattle.line.specs.Line.{shownList, valuesOf, lineAnswer}
 use Rattle.gauge_rules.specs.State.{State, fresh}
+use Rattle.gauge_rules.specs.BenchIn.{lacked, benchIn}
 use Rattle.gauge_rules.specs.RulesV2.{answerCode, textV2}
 use Rattle.gauge_table.specs.Asked.{isV1, askedV2, askedV1, wrongCode, unknownCommand, lacks, badFormV2, outsideV2, againstLogic}
 use Rattle.gauge_table.specs.Table.{answerRoom, otherAddress, numberOf}
@@ -58,7 +64,7 @@ SilentStays = (g : State) (room : ℕ) (s : List ℕ) → within 1 5 (numberOf g
 -- exactly if the eight conditions hold
 abbrev pub AcceptedExactly : Type 0
 AcceptedExactly = (g : State) (room : ℕ) (s : List ℕ)
-    → eqb (numberOf g room s) 0 ≡ (roomFits room && (frameFits s && (checksumFits s && (addressFits g s && (commandFits s && (accessFits s && (dataFits s && stateFits g s)))))))
+    → eqb (numberOf g room s) 0 ≡ (roomFits room && (frameFits s && (checksumFits s && (addressFits g s && (commandFits s && (accessFits s && (dataFits g s && stateFits g s)))))))
 
 -- the same on the bytes: V2 bytes are accepted exactly if they satisfy the paper for some request
 abbrev pub AcceptedV2Exactly : Type 0
@@ -73,7 +79,7 @@ AcceptedV1Exactly = (g : State) (room : ℕ) (s : List ℕ) → SoundState g
 -- and as which request: V2 bytes are accepted as the request r, with these sources, exactly if they satisfy the paper for it
 abbrev pub AcceptedAs : Type 0
 AcceptedAs = (g : State) (room : ℕ) (s : List ℕ) (r : RequestV2) (list : List ℕ) → SoundState g
-    → ((isV1 s ≡ false) × (numberOf g room s ≡ 0) × (askedV2 s ≡ AskV2.Asks r) × (askedList s ≡ list)) ↔ ((d : List ℕ) × Satisfies g room s r list d)
+    → ((isV1 s ≡ false) × (numberOf g room s ≡ 0) × (askedV2 (g .limits) s ≡ AskV2.Asks r) × (askedList (g .limits) s ≡ list)) ↔ ((d : List ℕ) × Satisfies g room s r list d)
 
 -- V1 bytes are accepted as the request r exactly if they satisfy the paper for it
 abbrev pub AcceptedAsV1 : Type 0
@@ -82,7 +88,7 @@ AcceptedAsV1 = (g : State) (room : ℕ) (s : List ℕ) (r : RequestV1) → Sound
 
 -- no accepted call without its effect: number 0 means that the bytes ask a typed request
 abbrev pub AsksV2 : Type 0
-AsksV2 = (g : State) (room : ℕ) (s : List ℕ) → numberOf g room s ≡ 0 → isV1 s ≡ false → (r : RequestV2) × (askedV2 s ≡ AskV2.Asks r)
+AsksV2 = (g : State) (room : ℕ) (s : List ℕ) → numberOf g room s ≡ 0 → isV1 s ≡ false → (r : RequestV2) × (askedV2 (g .limits) s ≡ AskV2.Asks r)
 
 abbrev pub AsksV1 : Type 0
 AsksV1 = (g : State) (room : ℕ) (s : List ℕ) → numberOf g room s ≡ 0 → isV1 s ≡ true → (r : RequestV1) × (askedV1 s ≡ AskV1.Asks r)
@@ -112,18 +118,18 @@ NumberOnBytes = (g : State) (room : ℕ) (s : List ℕ) → isV1 s ≡ false
     ∷ wrongCode a ⇒ 7
     ∷ unknownCommand n ⇒ 8
     ∷ lacks a n ⇒ 9
-    ∷ badFormV2 a n d ⇒ 10
-    ∷ outsideV2 a n d ⇒ 11
-    ∷ againstLogic a n d ⇒ 12
+    ∷ badFormV2 (g .limits) a n d ⇒ 10
+    ∷ outsideV2 (g .limits) a n d ⇒ 11
+    ∷ againstLogic (g .limits) a n d ⇒ 12
     ∷ cathodeHeld g a t ⇒ 12
     ∷ sensorFaulty (g .readings) a t ⇒ 13
     ∷ [])
     0)
 
--- of what a gauge holds, its number for any bytes depends on DA, CM, the readings and the unlock alone: "no refusal changes" where ST starts with
+-- of what a gauge of one profile holds, its number for any bytes depends on DA, CM, the readings and the unlock alone: "no refusal changes" where ST starts with
 -- another value
 abbrev pub SameNumber : Type 0
-SameNumber = (g h : State) → g .settings .address ≡ h .settings .address → g .settings .control ≡ h .settings .control → g .readings ≡ h .readings → g .unlocked ≡ h .unlocked
+SameNumber = (g h : State) → g .limits ≡ h .limits → g .settings .address ≡ h .settings .address → g .settings .control ≡ h .settings .control → g .readings ≡ h .readings → g .unlocked ≡ h .unlocked
     → (room : ℕ) (s : List ℕ) → numberOf g room s ≡ numberOf h room s
 
 -- "lent answer memory below 64 bytes" is ROOM: no reply is longer than that, whatever list its array holds
@@ -138,7 +144,7 @@ WithinLent = (g : State) → SoundState g → (room : ℕ) (s : List ℕ) → le
 
 -- "A DA write or restore is answered from the old address.": an accepted request is answered from the address that the gauge had before it
 abbrev pub OldAddress : Type 0
-OldAddress = (g : State) (room : ℕ) (s : List ℕ) (r : RequestV2) → numberOf g room s ≡ 0 → isV1 s ≡ false → askedV2 s ≡ AskV2.Asks r
+OldAddress = (g : State) (room : ℕ) (s : List ℕ) (r : RequestV2) → numberOf g room s ≡ 0 → isV1 s ≡ false → askedV2 (g .limits) s ≡ AskV2.Asks r
     → replyOf g s (numberOf g room s)
     ≡ frameV2 (record { address = g .settings .address; access = answerCode r; first = at s 4; second = at s 5 }) (textV2 g r)
 
@@ -149,7 +155,7 @@ ReadingsStay = (g : State) (room : ℕ) (s : List ℕ) → nextOf g room s .read
 -- every state that calls reach is sound: settings within the limits, ST's F strictly below T, readings as the bench can set them. A gauge
 -- starts so
 abbrev pub FreshSound : Type 0
-FreshSound = SoundState fresh
+FreshSound = (p : Profile) → SoundState (fresh (limitsOf p))
 
 -- any request leaves it so, whatever its bytes and the memory lent
 abbrev pub NextSound : Type 0
@@ -157,7 +163,19 @@ NextSound = (g : State) (room : ℕ) (s : List ℕ) → SoundState g → SoundSt
 
 -- and so does any bench setting
 abbrev pub BenchSound : Type 0
-BenchSound = (g : State) (b : Bench) → SoundState g → SoundState (benched g (benchOf b))
+BenchSound = (g : State) (b : Bench) → SoundState g → SoundState (benched g (benchIn (g .limits) b))
+
+-- "readings of sources a profile lacks can't be set by its bench (15)", and every other setting is judged as before
+abbrev pub BenchExactly : Type 0
+BenchExactly = (limits : ProfileLimits) (b : Bench) (x : Reading) → (benchIn limits b ≡ Accepted x) ↔ ((lacked limits (names b) ≡ false) × (benchOf b ≡ Accepted x))
+
+-- "chosen when the gauge is made and fixed after that": no request and no bench setting changes the profile
+abbrev pub ProfileStays : Type 0
+ProfileStays = ((g : State) (room : ℕ) (s : List ℕ) → nextOf g room s .limits ≡ g .limits) × ((g : State) (b : Bench) → benched g (benchIn (g .limits) b) .limits ≡ g .limits)
+
+-- and its limits tell which it is
+abbrev pub LimitsTell : Type 0
+LimitsTell = (p q : Profile) → limitsOf p ≡ limitsOf q → p ≡ q
 
 -- "A transition's lower end stays below its upper end."
 abbrev pub LowerBelow : Type 0
@@ -166,19 +184,20 @@ LowerBelow = (g : State) (low high : Number) → SoundState g → g .settings .t
 -- the stream line: a good list is shown whole, and so are readings within the bench's limits. Source 0 is never negative, and no other value
 -- is wider than its source's width
 abbrev pub LineWhole : Type 0
-LineWhole = (list : List ℕ) (r : Readings) → GoodList list → SoundReadings r → valuesOf (shownList (standard .sourceCodes) list) r ≡ map (λ (code : ℕ). valueText code r) (0 ∷ list)
+LineWhole = (codes list : List ℕ) (r : Readings) → GoodList codes list → SoundReadings r → valuesOf (shownList codes list) r ≡ map (λ (code : ℕ). valueText code r) (0 ∷ list)
 
 -- no line is longer than the longest, in any state
 abbrev pub LineFits : Type 0
-LineFits = (room : ℕ) (h : Held) (r : Readings) → length (lineAnswer room h r .reply) ≤ longestLine (standard .sourceCodes)
+LineFits = (limits : ProfileLimits) → Proper limits → (room : ℕ) (h : Held) (r : Readings) → length (lineAnswer limits room h r .reply) ≤ longestLine (limits .sourceCodes)
 
--- "ROOM, checked first": 1 exactly where less than 71 bytes are lent, whether lines are sent or not
+-- "ROOM, checked first": 1 exactly where less is lent than the profile's longest line has, 71 bytes, or 30 on VSH and VSM, whether lines are
+-- sent or not
 abbrev pub LineRoomExactly : Type 0
-LineRoomExactly = (room : ℕ) (h : Held) (r : Readings) → (lineAnswer room h r .number ≡ 1) ↔ (room < 71)
+LineRoomExactly = (limits : ProfileLimits) (room : ℕ) (h : Held) (r : Readings) → (lineAnswer limits room h r .number ≡ 1) ↔ (room < longestLine (limits .sourceCodes))
 
 -- and it lies within the memory lent
 abbrev pub LineWithinLent : Type 0
-LineWithinLent = (room : ℕ) (h : Held) (r : Readings) → length (lineAnswer room h r .reply) ≤ room
+LineWithinLent = (limits : ProfileLimits) → Proper limits → (room : ℕ) (h : Held) (r : Readings) → length (lineAnswer limits room h r .reply) ≤ room
 
 -- ---- "V1 on the same settings"
 

@@ -5,6 +5,7 @@ use Prim.Native.Nat.{ℕ}
 use lib.Dec.{eqb}
 use Rattle.buffer.specs.First.{_⇒_, first}
 use Rattle.buffer.specs.Byte.{within, digit}
+use Rattle.settings.specs.Limits.{ProfileLimits}
 use Rattle.settings.specs.Settings.{Held, putOf, restoreOf}
 use Rattle.settings.specs.Sent.{readText}
 use Rattle.settings.specs.declared.Key.the-variants.{DA, DU, C1, CM, CC, FC, ST, SM}
@@ -85,11 +86,11 @@ answerCode (Restore c) = 53
 answerCode (Set x) = 51
 
 -- what an accepted request enters; the list counts for SM only
-unfoldable pub enterV2 : Held → RequestV2 → List ℕ → Held
-enterV2 h (Read c) list = h
-enterV2 h (Restore MV) list = h
-enterV2 h (Restore T2) list = h
-enterV2 h (Restore FN) list = h
-enterV2 h (Restore FS) list = h
-enterV2 h (Restore (Of key)) list = restoreOf h key
-enterV2 h (Set x) list = putOf h x list
+unfoldable pub enterV2 : ProfileLimits → Held → RequestV2 → List ℕ → Held
+enterV2 limits h (Read c) list = h
+enterV2 limits h (Restore MV) list = h
+enterV2 limits h (Restore T2) list = h
+enterV2 limits h (Restore FN) list = h
+enterV2 limits h (Restore FS) list = h
+enterV2 limits h (Restore (Of key)) list = restoreOf limits h key
+enterV2 limits h (Set x) list = putOf h x list

@@ -1,4 +1,4 @@
-// The text gauge's state, and the rules by which typed V2 requests are decided, with what they change (document 01, "Settings and readings, V2").
+// The text gauge's state and its bench, and the rules by which typed V2 requests are decided, with what they change (document 01, "Settings and readings, V2").
 ghost use mathlib.Core.Path.{_≡_};
 ghost use mathlib.Core.Bool.{_&&_};
 ghost use mathlib.Core.List.{List, []};
@@ -6,27 +6,32 @@ ghost use Prim.Native.Nat.{ℕ};
 ghost use lib.Dec.{eqb};
 ghost use Rattle.buffer.specs.Text.{textOf};
 ghost use Rattle.sources.specs.Source.{listOf, Counted};
+ghost use Rattle.settings.specs.Limits.{limitsOf};
 ghost use Rattle.settings.specs.Settings.{Held, held, changedBy};
 ghost use Rattle.requests.specs.declared.Command.{Command};
 ghost use Rattle.requests.specs.declared.RequestV2.{RequestV2};
 ghost use Rattle.gauge_rules.specs.State.{stateOf, settled, measured, unlockedAs, fresh};
+ghost use Rattle.readings.specs.There.{names};
+ghost use Rattle.gauge_rules.specs.BenchIn.{lacked, benchIn};
 ghost use Rattle.gauge_rules.specs.RulesV2.{filamentOf, changesCathode, readsFaulty, grantV2, sentText, textV2, answerCode, enterV2};
 
-// A gauge: its settings, its readings with FS, and whether it is unlocked.
+// A gauge: its profile, which no call changes, its settings, its readings with FS, and whether it is unlocked.
 pub struct Gauge {
+    pub profile: sources::Profile,
     pub settings: settings::Settings,
     pub readings: readings::Readings,
     pub unlocked: bool,
 }
 
 impl Gauge {
-    // A gauge at factory settings and the bench's start, locked.
-    pub fn at_start() -> Gauge
-        ensures { λ r. ⌜ stateOf r ≡ fresh ⌝ }
+    // A gauge of this profile, at factory settings and the bench's start, locked.
+    pub fn at_start(profile: sources::Profile) -> Gauge
+        ensures { λ r. ⌜ (stateOf r ≡ fresh (limitsOf profile)) × (r .profile ≡ profile) ⌝ }
         ensures { λ r. ⌜ Counted (r .settings .sources) ⌝ }
     {
         Gauge {
-            settings: settings::Settings::at_factory(),
+            profile,
+            settings: settings::Settings::at_factory(profile),
             readings: readings::Readings::at_start(),
             unlocked: false,
         }
@@ -35,11 +40,13 @@ impl Gauge {
     // The gauge with these settings, and nothing else changed.
     pub fn with_settings(self, settings: settings::Settings) -> Gauge
         ensures { λ r. ⌜ stateOf r ≡ settled (stateOf self) (held settings) ⌝ }
-        ensures { λ r. ⌜ r .settings ≡ settings ⌝ }
+        ensures { λ r. ⌜ (r .settings ≡ settings) × (r .profile ≡ self .profile) ⌝ }
     {
         let lock = self.unlocked;
+        let profile = self.profile;
         let readings = self.readings;
         Gauge {
+            profile,
             settings,
             readings,
             unlocked: lock,
@@ -49,10 +56,12 @@ impl Gauge {
     // The gauge with these readings, and nothing else changed.
     pub fn with_readings(self, readings: readings::Readings) -> Gauge
         ensures { λ r. ⌜ stateOf r ≡ measured (stateOf self) readings ⌝ }
-        ensures { λ r. ⌜ r .settings ≡ self .settings ⌝ }
+        ensures { λ r. ⌜ (r .settings ≡ self .settings) × (r .profile ≡ self .profile) ⌝ }
     {
+        let profile = self.profile;
         let settings = self.settings;
         Gauge {
+            profile,
             settings,
             readings,
             unlocked: self.unlocked,
@@ -62,11 +71,13 @@ impl Gauge {
     // The gauge unlocked or locked, and nothing else changed.
     pub fn with_unlock(self, unlocked: bool) -> Gauge
         ensures { λ r. ⌜ stateOf r ≡ unlockedAs (stateOf self) unlocked ⌝ }
-        ensures { λ r. ⌜ r .settings ≡ self .settings ⌝ }
+        ensures { λ r. ⌜ (r .settings ≡ self .settings) × (r .profile ≡ self .profile) ⌝ }
     {
+        let profile = self.profile;
         let settings = self.settings;
         let readings = self.readings;
         Gauge {
+            profile,
             settings,
             readings,
             unlocked,
@@ -235,9 +246,9 @@ pub fn answer_code(request: requests::RequestV2) -> u8
     }
 }
 
-// What a restore of a command puts: the factory value, where it is a setting.
-fn put_restored(command: requests::Command) -> settings::Put
-    ensures { λ r. ⌜ ((h : Held) (list : List ℕ) → changedBy h r [] ≡ enterV2 h (RequestV2.Restore command) list) ⌝ }
+// What a restore of a command puts: the profile's factory value, where it is a setting.
+fn put_restored(profile: sources::Profile, command: requests::Command) -> settings::Put
+    ensures { λ r. ⌜ ((h : Held) (list : List ℕ) → changedBy h r [] ≡ enterV2 (limitsOf profile) h (RequestV2.Restore command) list) ⌝ }
 {
     match command {
         requests::Command::MV => settings::Put::Nothing,
@@ -245,14 +256,18 @@ fn put_restored(command: requests::Command) -> settings::Put
         requests::Command::FN => settings::Put::Nothing,
         requests::Command::FS => settings::Put::Nothing,
         requests::Command::Of(key) => {
-            settings::Put::Value(settings::Settings::factory_value(key))
+            settings::Put::Value(settings::Settings::factory_value(profile, key))
         }
     }
 }
 
-// What an accepted V2 request changes.
-pub fn change_v2(request: requests::RequestV2, list: sources::Sources) -> settings::Change
-    ensures { λ r. ⌜ ((h : Held) → changedBy h (r .put) (listOf (r .sources)) ≡ enterV2 h request (listOf list)) ⌝ }
+// What an accepted V2 request changes at a gauge of this profile.
+pub fn change_v2(
+    profile: sources::Profile,
+    request: requests::RequestV2,
+    list: sources::Sources,
+) -> settings::Change
+    ensures { λ r. ⌜ ((h : Held) → changedBy h (r .put) (listOf (r .sources)) ≡ enterV2 (limitsOf profile) h request (listOf list)) ⌝ }
     ensures { λ r. ⌜ (Counted list → Counted (r .sources)) ⌝ }
 {
     match request {
@@ -262,7 +277,7 @@ pub fn change_v2(request: requests::RequestV2, list: sources::Sources) -> settin
         },
         requests::RequestV2::Restore(command) => settings::Change {
             sources: sources::Sources::NONE,
-            put: put_restored(command),
+            put: put_restored(profile, command),
         },
         requests::RequestV2::Set(setting) => settings::Change {
             sources: list,
@@ -273,12 +288,38 @@ pub fn change_v2(request: requests::RequestV2, list: sources::Sources) -> settin
 
 // The settings after an accepted V2 request.
 pub fn enter_v2(
+    profile: sources::Profile,
     s: settings::Settings,
     request: requests::RequestV2,
     list: sources::Sources,
 ) -> settings::Settings
-    ensures { λ r. ⌜ held r ≡ enterV2 (held s) request (listOf list) ⌝ }
+    ensures { λ r. ⌜ held r ≡ enterV2 (limitsOf profile) (held s) request (listOf list) ⌝ }
     ensures { λ r. ⌜ (Counted (s .sources) → Counted list → Counted (r .sources)) ⌝ }
 {
-    s.changed(change_v2(request, list))
+    s.changed(change_v2(profile, request, list))
+}
+
+// ---- the bench
+
+// Whether a bench setting names a source that the profile lacks. FS is no source.
+fn names_lacked(profile: sources::Profile, b: readings::Bench) -> bool
+    ensures { λ r. ⌜ r ≡ lacked (limitsOf profile) (names b) ⌝ }
+{
+    match b {
+        readings::Bench::Reads(code, _) => !sources::offers(profile, code),
+        readings::Bench::UnderRange(code) => !sources::offers(profile, code),
+        readings::Bench::OverRange(code) => !sources::offers(profile, code),
+        readings::Bench::Faulty(code) => !sources::offers(profile, code),
+        readings::Bench::Status(_) => false,
+    }
+}
+
+// A bench setting of a gauge of this profile, as a reading, or refused.
+pub fn judge_bench(profile: sources::Profile, b: readings::Bench) -> readings::Benched
+    ensures { λ r. ⌜ r ≡ benchIn (limitsOf profile) b ⌝ }
+{
+    if names_lacked(profile, b) {
+        return readings::Benched::Refused;
+    }
+    readings::judge_bench(b)
 }

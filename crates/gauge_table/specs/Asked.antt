@@ -7,7 +7,7 @@ use lib.ListN.{length}
 use Rattle.buffer.specs.First.{_⇒_, first}
 use Rattle.buffer.specs.Byte.{at, isDigit, numeral}
 use Rattle.frames.specs.Frame.{isLetter, dataFrom, headV2}
-use Rattle.settings.specs.Limits.{isFactor}
+use Rattle.settings.specs.Limits.{ProfileLimits, isFactor}
 use Rattle.readings.specs.Reading.{faultyPressure}
 use Rattle.forms.specs.Judged.{verdictOf, verdictNumber}
 use Rattle.requests.specs.Command.{writeCode, isAccess, lacksAccess}
@@ -27,13 +27,13 @@ abbrev pub isV1 : List ℕ → Bool
 isV1 s = isLetter (at s 3)
 
 -- what a V2 and a V1 frame ask
-abbrev pub askedV2 : List ℕ → AskV2
-askedV2 s = askV2 (headV2 s) (dataFrom 8 s)
+abbrev pub askedV2 : ProfileLimits → List ℕ → AskV2
+askedV2 limits s = askV2 limits (headV2 s) (dataFrom 8 s)
 
 abbrev pub askedV1 : List ℕ → AskV1
 askedV1 s = askV1 (at s 3) (dataFrom 4 s)
 
--- ---- V2: a is the access code, n the command, d the data
+-- ---- V2: a is the access code, n the command, d the data, limits those of the gauge's profile
 
 -- 7 CODE: "V2: access not 0, 2 or 4"
 abbrev pub wrongCode : ℕ → Bool
@@ -50,25 +50,25 @@ lacks a (Known c) = lacksAccess a c
 lacks a Unknown = false
 
 -- how the data of a write are judged
-unfoldable pub dataNumber : Named → List ℕ → ℕ
-dataNumber (Known MV) d = 0
-dataNumber (Known T2) d = 0
-dataNumber (Known FN) d = 0
-dataNumber (Known FS) d = 0
-dataNumber (Known (Of key)) d = verdictNumber (verdictOf key d)
-dataNumber Unknown d = 0
+unfoldable pub dataNumber : ProfileLimits → Named → List ℕ → ℕ
+dataNumber limits (Known MV) d = 0
+dataNumber limits (Known T2) d = 0
+dataNumber limits (Known FN) d = 0
+dataNumber limits (Known FS) d = 0
+dataNumber limits (Known (Of key)) d = verdictNumber (verdictOf limits key d)
+dataNumber limits Unknown d = 0
 
 -- 10 SYNTAX: "data not of the command's form; V2: data with a read or default, none with a write"
-unfoldable pub badFormV2 : ℕ → Named → List ℕ → Bool
-badFormV2 a n d = cond (eqb a writeCode) (eqb (length d) 0 || eqb (dataNumber n d) 10) (not (eqb (length d) 0))
+unfoldable pub badFormV2 : ProfileLimits → ℕ → Named → List ℕ → Bool
+badFormV2 limits a n d = cond (eqb a writeCode) (eqb (length d) 0 || eqb (dataNumber limits n d) 10) (not (eqb (length d) 0))
 
 -- 11 RANGE: "form right, a number outside"
-unfoldable pub outsideV2 : ℕ → Named → List ℕ → Bool
-outsideV2 a n d = eqb a writeCode && eqb (dataNumber n d) 11
+unfoldable pub outsideV2 : ProfileLimits → ℕ → Named → List ℕ → Bool
+outsideV2 limits a n d = eqb a writeCode && eqb (dataNumber limits n d) 11
 
 -- 12 LOGIC in the data: "ST's F must lie strictly below T, else LOGIC."; in SM's list "a repeat or a listed `0` is 12 LOGIC"
-unfoldable pub againstLogic : ℕ → Named → List ℕ → Bool
-againstLogic a n d = eqb a writeCode && eqb (dataNumber n d) 12
+unfoldable pub againstLogic : ProfileLimits → ℕ → Named → List ℕ → Bool
+againstLogic limits a n d = eqb a writeCode && eqb (dataNumber limits n d) 12
 
 -- 12 LOGIC: "CC written or restored while CM is 1 is LOGIC."
 unfoldable pub breaksRule : State → AskV2 → Bool

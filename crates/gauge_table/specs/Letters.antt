@@ -7,7 +7,8 @@ use Prim.Native.String.{String}
 use Rattle.buffer.specs.First.{_⇒_, first}
 use Rattle.buffer.specs.Byte.{at}
 use Rattle.buffer.specs.Quoted.{bytes}
-use Rattle.settings.specs.Settings.{factory}
+use Rattle.sources.specs.declared.Profile.the-variants.{Standard}
+use Rattle.settings.specs.Limits.{limitsOf}
 use Rattle.readings.specs.Reading.{start, faultyPressure}
 use Rattle.gauge_rules.specs.State.{State, unlockedAs, fresh}
 use Rattle.requests.specs.AskV1.{sixDigits}
@@ -88,7 +89,7 @@ rowsV1 g l d =
 abbrev pub numbersOf : Row → List ℕ
 numbersOf r =
     map
-    (λ (unlocked : Bool). rowsV1 (unlockedAs fresh unlocked) (at (r .letter) 0) (r .text))
+    (λ (unlocked : Bool). rowsV1 (unlockedAs (fresh (limitsOf Standard)) unlocked) (at (r .letter) 0) (r .text))
     (true ∷ false ∷ [])
 
 abbrev pub printed : Row → List ℕ

@@ -46,6 +46,6 @@ replyOf g s k =
     (within 1 5 k ⇒ []
     ∷ (isV1 s && eqb k 0) ⇒ acceptedV1 g s (headV1 s) (askedV1 s)
     ∷ isV1 s ⇒ errorV1 k (headV1 s)
-    ∷ eqb k 0 ⇒ acceptedV2 g (headV2 s) (askedV2 s)
+    ∷ eqb k 0 ⇒ acceptedV2 g (headV2 s) (askedV2 (g .limits) s)
     ∷ [])
     (errorV2 k (headV2 s))

@@ -43,11 +43,11 @@ numberOf g room s =
     ∷ test s (unknownLetter l) (unknownCommand n) ⇒ 8
     ∷ test s false (lacks a n) ⇒ 9
     -- SYNTAX; the lock; RANGE; LOGIC; FAULT
-    ∷ test s (badFormV1 l d1) (badFormV2 a n d2) ⇒ 10
+    ∷ test s (badFormV1 l d1) (badFormV2 (g .limits) a n d2) ⇒ 10
     ∷ test s (lockedWrite g l d1) false ⇒ 12
-    ∷ test s (outsideV1 l d1) (outsideV2 a n d2) ⇒ 11
-    ∷ test s false (againstLogic a n d2) ⇒ 12
-    ∷ test s false (breaksRule g (askedV2 s)) ⇒ 12
-    ∷ test s (measuresFaulty g l) (asksFaulty g (askedV2 s)) ⇒ 13
+    ∷ test s (outsideV1 l d1) (outsideV2 (g .limits) a n d2) ⇒ 11
+    ∷ test s false (againstLogic (g .limits) a n d2) ⇒ 12
+    ∷ test s false (breaksRule g (askedV2 (g .limits) s)) ⇒ 12
+    ∷ test s (measuresFaulty g l) (asksFaulty g (askedV2 (g .limits) s)) ⇒ 13
     ∷ [])
     0

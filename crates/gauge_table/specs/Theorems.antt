@@ -25,7 +25,7 @@ Number6 = (s : List ℕ) (g : State) (room : ℕ) → ltb room answerRoom ≡ fa
 -- a V2 request, decoded and then decided, has the table's number
 abbrev pub NumberV2 : Type 0
 NumberV2 = (s : List ℕ) (g : State) (room : ℕ) → ltb room answerRoom ≡ false → Framed s
-    → otherAddress g s ≡ false → isLetter (at s 3) ≡ false → wrongLength s ≡ false → numberOf g room s ≡ decidedV2 g (askedV2 s)
+    → otherAddress g s ≡ false → isLetter (at s 3) ≡ false → wrongLength s ≡ false → numberOf g room s ≡ decidedV2 g (askedV2 (g .limits) s)
 
 -- and so has a V1 request
 abbrev pub NumberV1 : Type 0

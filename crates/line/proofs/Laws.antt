@@ -7,7 +7,7 @@ use native.Mathlib.Nat.{zero-add}
 use native.Mathlib.Numerals.{add-one}
 use native.Mathlib.Omega.{arith}
 use borrow.Author.Tests.{lt-ltb, le-ltb}
-use lib.Dec.{eqb, leb, ltb}
+use lib.Dec.{eqb, leb}
 use lib.ListN.{length, take, drop, getD, set, replicate, length-append, length-take, length-map}
 use lib.Seq.{sets, sets-eq, drop-cons, take-append-seam, getD-append-add, getD-drop}
 use Rattle.buffer.specs.First.{pick}
@@ -16,10 +16,10 @@ use Rattle.buffer.specs.Answer.{silent, Stored}
 use Rattle.buffer.proofs.Rules.{each}
 use Rattle.buffer.proofs.Laws.{sets-sets, drop-step}
 use Rattle.frames.specs.Checksum.{endOf, closed}
-use Rattle.sources.specs.Source.{knownSources, among, allDiffer, standOnce, listable, total}
+use Rattle.sources.specs.Source.{among, allDiffer, standOnce, listable, total}
 use Rattle.sources.proofs.Weights.{weights, at-most, at-most-all, line-known}
-use Rattle.settings.specs.Limits.{standard, widthOf, longestLine}
-use Rattle.settings.proofs.Laws.{longest-is}
+use Rattle.settings.specs.Limits.{ProfileLimits, limitsOf, widthOf, longestLine}
+use Rattle.settings.proofs.Laws.{zero-here, few-here}
 use Rattle.settings.specs.Settings.{Held}
 use Rattle.readings.specs.Reading.{valueText}
 use Rattle.readings.specs.declared.Readings.{Readings}
@@ -179,9 +179,8 @@ few-values codes list r z =
     omega (arith, at-most-all codes (0 ∷ shown) (line-known codes shown z (w .0)) (w .1), length-map (0 ∷ shown) (lineValue r))
 
 -- so a list that is shown has at most six entries
-pub shown-few : (list : List ℕ) → length (shownList (standard .sourceCodes) list) ≤ 6
-unfolding among
-shown-few list = at-most knownSources (shownList knownSources list) refl (shown-listable knownSources list refl)
+pub shown-few : (codes list : List ℕ) → among codes 0 ≡ true → length codes ≤ 7 → length (shownList codes list) ≤ 6
+shown-few codes list z k = omega (arith, k, at-most codes (shownList codes list) z (shown-listable codes list z))
 
 value-width : (r : Readings) (c : ℕ) → length (lineValue r c) ≤ widthOf c
 unfolding lineValue
@@ -200,10 +199,6 @@ no-longer codes list r z =
     let w = and-eq-true-iff (every (among codes) shown) (standOnce shown) .0 (shown-listable codes list z) in
     rw length-end (simp length-append (omega (arith, value-width r 0, tail-le r shown, weights (λ c. widthOf c + 1) codes (0 ∷ shown) (line-known codes shown z (w .0)) (w .1))))
 
-pub line-le : (list : List ℕ) (r : Readings) → length (closed (joined (valuesOf (shownList (standard .sourceCodes) list) r))) ≤ 71
-unfolding among
-line-le list r = rw longest-is at (no-longer (standard .sourceCodes) list r refl)
-
 -- rows that are stored leave the others as they are
 row-left : (rows : List (List ℕ)) → length rows ≤ 7 → getD (sets (replicate 8 noRow) 0 rows) 7 [] ≡ noRow
 row-left rows h =
@@ -214,27 +209,24 @@ row-left rows h =
     (ap (λ (i : ℕ). getD (rows ++ drop n (replicate 8 noRow)) i []) (sym k) ∙ getD-append-add rows (drop n (replicate 8 noRow)) (7 - n) [] ∙ getD-drop n (replicate 8 noRow) (7 - n) [] ∙ ap (λ (i : ℕ). getD (replicate 8 noRow) i []) k)
 
 pub eighth-empty : EighthEmpty
-unfolding rowsOf valuesOf among
-eighth-empty list r =
-    let values = valuesOf (shownList (standard .sourceCodes) list) r in
-    row-left (map rowOf values) (omega (arith, length-map values rowOf, few-values (standard .sourceCodes) list r refl))
+unfolding rowsOf valuesOf
+eighth-empty p list r =
+    let codes = limitsOf p .sourceCodes in
+    let values = valuesOf (shownList codes list) r in
+    row-left (map rowOf values) (omega (arith, length-map values rowOf, few-values codes list r (zero-here p), few-here p))
 
 -- ---- what is answered, by its tests
 
-module _ (room : ℕ) (h : Held) (r : Readings) where
-  pub no-room : room < 71 → lineAnswer room h r ≡ silent 1
+module _ (limits : ProfileLimits) (room : ℕ) (h : Held) (r : Readings) where
+  pub no-room : room < longestLine (limits .sourceCodes) → lineAnswer limits room h r ≡ silent 1
   unfolding lineAnswer pick
-  no-room k =
-      let e : ltb room (longestLine (standard .sourceCodes)) ≡ true = rw longest-is (lt-ltb room 71 k) in
-      rw e
+  no-room k = rw (lt-ltb room (longestLine (limits .sourceCodes)) k)
 
-  room-is : 71 ≤ room → ltb room (longestLine (standard .sourceCodes)) ≡ false
-  room-is k = rw longest-is (le-ltb room 71 k)
-
-  pub no-line : 71 ≤ room → not (h .streaming) ≡ true → lineAnswer room h r ≡ silent 0
+  pub no-line : longestLine (limits .sourceCodes) ≤ room → not (h .streaming) ≡ true → lineAnswer limits room h r ≡ silent 0
   unfolding lineAnswer pick
-  no-line k s = rw (room-is k, s)
+  no-line k s = rw (le-ltb room (longestLine (limits .sourceCodes)) k, s)
 
-  pub a-line : 71 ≤ room → not (h .streaming) ≡ false → lineAnswer room h r ≡ record { number = 0; reply = closed (joined (valuesOf (shownList (standard .sourceCodes) (h .list)) r)) }
+  pub a-line : longestLine (limits .sourceCodes) ≤ room → not (h .streaming) ≡ false
+      → lineAnswer limits room h r ≡ record { number = 0; reply = closed (joined (valuesOf (shownList (limits .sourceCodes) (h .list)) r)) }
   unfolding lineAnswer pick
-  a-line k s = rw (room-is k, s)
+  a-line k s = rw (le-ltb room (longestLine (limits .sourceCodes)) k, s)

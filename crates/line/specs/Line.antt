@@ -8,7 +8,7 @@ use Rattle.buffer.specs.First.{_⇒_, first, pick}
 use Rattle.buffer.specs.Answer.{Answer, silent}
 use Rattle.frames.specs.Checksum.{closed}
 use Rattle.sources.specs.Source.{listable}
-use Rattle.settings.specs.Limits.{standard, widthOf, longestLine}
+use Rattle.settings.specs.Limits.{ProfileLimits, widthOf, longestLine}
 use Rattle.settings.specs.Settings.{Held}
 use Rattle.readings.specs.Reading.{valueText}
 use Rattle.readings.specs.declared.Readings.{Readings}
@@ -36,12 +36,12 @@ unfoldable pub joined : List (List ℕ) → List ℕ
 joined [] = []
 joined (t ∷ ts) = t ++ tailOf ts
 
--- with less than the longest line lent, "ROOM, checked first"; "With SM 0 there is no line (0, length 0, nothing written)"; "A frameless stream
+-- with less lent than the profile's longest line, "which is its stream buffer's lower limit", "ROOM, checked first"; "With SM 0 there is no line (0, length 0, nothing written)"; "A frameless stream
 -- line has data, checksum and CR only."
-unfoldable pub lineAnswer : ℕ → Held → Readings → Answer
-lineAnswer room h r =
+unfoldable pub lineAnswer : ProfileLimits → ℕ → Held → Readings → Answer
+lineAnswer limits room h r =
     first
-    (ltb room (longestLine (standard .sourceCodes)) ⇒ silent 1
+    (ltb room (longestLine (limits .sourceCodes)) ⇒ silent 1
     ∷ not (h .streaming) ⇒ silent 0
     ∷ [])
-    (record { number = 0; reply = closed (joined (valuesOf (shownList (standard .sourceCodes) (h .list)) r)) })
+    (record { number = 0; reply = closed (joined (valuesOf (shownList (limits .sourceCodes) (h .list)) r)) })

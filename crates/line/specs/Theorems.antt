@@ -6,7 +6,8 @@ use Prim.Native.Nat.{ℕ, _≤_}
 use lib.ListN.{length, getD}
 use Rattle.frames.specs.Checksum.{closed}
 use Rattle.sources.specs.Source.{among}
-use Rattle.settings.specs.Limits.{standard, longestLine}
+use Rattle.sources.specs.declared.Profile.{Profile}
+use Rattle.settings.specs.Limits.{limitsOf, longestLine}
 use Rattle.readings.specs.declared.Readings.{Readings}
 use Rattle.line.specs.Line.{valuesOf, shownList, joined}
 use Rattle.line.specs.Rows.{noRow, rowsOf}
@@ -21,4 +22,4 @@ NoLonger = (codes list : List ℕ) (r : Readings) → among codes 0 ≡ true →
 
 -- of the "eight rows of eleven characters" the eighth is always empty
 abbrev pub EighthEmpty : Type 0
-EighthEmpty = (list : List ℕ) (r : Readings) → getD (rowsOf (valuesOf (shownList (standard .sourceCodes) list) r)) 7 [] ≡ noRow
+EighthEmpty = (p : Profile) (list : List ℕ) (r : Readings) → getD (rowsOf (valuesOf (shownList (limitsOf p .sourceCodes) list) r)) 7 [] ≡ noRow

@@ -6,13 +6,26 @@ ghost use lib.ListN.{length, take, drop};
 ghost use Rattle.buffer.specs.Text.{textOf};
 ghost use Rattle.buffer.specs.Answer.{Stored, Sent};
 ghost use Rattle.sources.specs.Source.{listOf};
-ghost use Rattle.settings.specs.Limits.{standard, widthOf};
+ghost use Rattle.settings.specs.Limits.{limitsOf, widthOf, longestLine};
 ghost use Rattle.settings.specs.Settings.{held};
 ghost use Rattle.line.specs.Line.{valuesOf, shownList, lineAnswer};
 ghost use Rattle.line.specs.Rows.{rowOf, rowsOf, rowText, tailRows, lineOf};
 
-// The longest line: seven values.
+// The longest line: seven values, or three of a hot cathode gauge.
 pub const ROOM: usize = 71;
+
+pub const HOT_ROOM: usize = 30;
+
+// How many bytes the line of a profile asks for: as many as its longest line has.
+pub fn room(profile: sources::Profile) -> usize
+    ensures { λ r. ⌜ r ≡ longestLine (limitsOf profile .sourceCodes) ⌝ }
+{
+    match profile {
+        sources::Profile::Standard => ROOM,
+        sources::Profile::Vsh => HOT_ROOM,
+        sources::Profile::Vsm => HOT_ROOM,
+    }
+}
 
 // The widest value of a source, by its code.
 fn width(code: u8) -> usize
@@ -93,10 +106,10 @@ fn put_tail(out: &mut [u8], at: usize, rows: [[u8; 11]; 8]) -> usize
 }
 
 // The list that the line shows: none where SM could not have it, which no call makes.
-fn shown_list(q: sources::Sources) -> sources::Sources
-    ensures { λ r. ⌜ listOf r ≡ shownList (standard .sourceCodes) (listOf q) ⌝ }
+fn shown_list(profile: sources::Profile, q: sources::Sources) -> sources::Sources
+    ensures { λ r. ⌜ listOf r ≡ shownList (limitsOf profile .sourceCodes) (listOf q) ⌝ }
 {
-    if sources::is_listable(q) {
+    if sources::is_listable(profile, q) {
         return q;
     }
     sources::Sources::NONE
@@ -114,18 +127,23 @@ fn write_line(out: &mut [u8], rows: [[u8; 11]; 8]) -> usize
     q + 2
 }
 
-// The stream line of these settings and readings.
-pub fn stream_line(s: settings::Settings, r: readings::Readings, out: &mut [u8]) -> buffer::Written
-    ensures { λ w. ⌜ Sent (now (out .entry)) (lineAnswer (length (now (out .entry))) (held s) r) (now (out .exit)) w ⌝ }
+// The stream line of these settings and readings, at a gauge of this profile.
+pub fn stream_line(
+    profile: sources::Profile,
+    s: settings::Settings,
+    r: readings::Readings,
+    out: &mut [u8],
+) -> buffer::Written
+    ensures { λ w. ⌜ Sent (now (out .entry)) (lineAnswer (limitsOf profile) (length (now (out .entry))) (held s) r) (now (out .exit)) w ⌝ }
 {
-    if out.len() < ROOM {
+    if out.len() < room(profile) {
         return buffer::Written { number: 1, len: 0 };
     }
     let streaming = s.streaming;
     if !streaming {
         return buffer::Written { number: 0, len: 0 };
     }
-    let rows = rows_of(shown_list(s.sources), r);
+    let rows = rows_of(shown_list(profile, s.sources), r);
     let len = write_line(out, rows);
     buffer::Written { number: 0, len }
 }

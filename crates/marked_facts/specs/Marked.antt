@@ -8,8 +8,9 @@ use Rattle.buffer.specs.Byte.{sameText}
 use Rattle.buffer.specs.First.{pick}
 use Rattle.buffer.specs.Quoted.{bytes}
 use Rattle.frames.specs.Checksum.{closed}
+use Rattle.sources.specs.declared.Profile.the-variants.{Standard}
+use Rattle.settings.specs.Limits.{ProfileLimits, limitsOf}
 use Rattle.settings.specs.declared.Key.the-variants.{C1}
-use Rattle.readings.specs.Bench.{benchOf}
 use Rattle.readings.specs.declared.Bench.the-variants.{Reads}
 use Rattle.readings_facts.specs.Examples.{decimals}
 use Rattle.requests.specs.Command.{commandText}
@@ -23,7 +24,8 @@ use Rattle.request_reader.specs.declared.Request.the-variants as asks
 use Rattle.replies_v1.specs.ReplyV1.{readV1, readShownV1}
 use Rattle.replies_v2.specs.ReplyV2.{readV2, readShownV2}
 use Rattle.line.specs.Line.{valuesOf, lineAnswer}
-use Rattle.gauge_rules.specs.State.{fresh}
+use Rattle.gauge_rules.specs.State.{State, fresh}
+use Rattle.gauge_rules.specs.BenchIn.{benchIn}
 use Rattle.gauge_table.specs.After.{answerOf as tableAnswer, nextOf, benched}
 use Rattle.opg_commands.specs.Request.{requestPid, requestCmd, requestData}
 use Rattle.opg_commands.specs.declared.Request.the-variants as command
@@ -47,15 +49,22 @@ opgShown (Silent k) = k ∷ []
 opgShown (Error e) = (1000 + e) ∷ []
 opgShown (Accepted r) = 20 ∷ requestCmd r ∷ requestPid r ∷ requestData r
 
--- what a text gauge at factory settings sends
+-- document 01's gauge, at factory settings
+abbrev pub limits : ProfileLimits
+limits = limitsOf Standard
+
+abbrev pub factoryGauge : State
+factoryGauge = fresh limits
+
+-- what it sends
 abbrev pub sent : String → List ℕ
-sent request = tableAnswer fresh 64 (bytes request) .reply
+sent request = tableAnswer factoryGauge 64 (bytes request) .reply
 
 -- the line of a gauge that reads 973.4 mbar, after a request
 abbrev pub lineAfter : String → List ℕ
 lineAfter request =
-    let g = nextOf (benched fresh (benchOf (Reads 0 (decimals 9734 1)))) 64 (bytes request) in
-    lineAnswer 71 (g .settings) (g .readings) .reply
+    let g = nextOf (benched factoryGauge (benchIn limits (Reads 0 (decimals 9734 1)))) 64 (bytes request) in
+    lineAnswer limits 71 (g .settings) (g .readings) .reply
 
 -- the data of a frameless line, whose end is their checksum and CR; of other bytes nothing
 abbrev pub lineData : List ℕ → List ℕ
@@ -66,8 +75,8 @@ lineData s =
 -- a request's number at factory settings, and how many values the line then has
 abbrev pub values : List ℕ → List ℕ
 values s =
-    let g = nextOf fresh 64 s in
-    tableAnswer fresh 64 s .number ∷ length (valuesOf (g .settings .list) (g .readings)) ∷ []
+    let g = nextOf factoryGauge 64 s in
+    tableAnswer factoryGauge 64 s .number ∷ length (valuesOf (g .settings .list) (g .readings)) ∷ []
 
 -- ---- the rows of the table
 
@@ -83,7 +92,7 @@ row text made meant = record { printed = bytes text; made = made; meant = meant 
 abbrev pub rows : List Row
 rows =
     -- read MV
-    row "0010MV00D\r" (λ s. shown (requestOf s)) (0 ∷ 1 ∷ bytes "0MV")
+    row "0010MV00D\r" (λ s. shown (requestOf limits s)) (0 ∷ 1 ∷ bytes "0MV")
     -- 982.1 mbar
     ∷ row "001M982122V\r" (λ s. readShownV1 (readV1 1 Measure s)) (0 ∷ 1 ∷ 9821 ∷ 22 ∷ [])
     -- frameless line: it is sent, and its data are 973.4 mbar as written
@@ -91,9 +100,9 @@ rows =
     -- three values
     ∷ row "0012SM064D7DT2B\r" values (0 ∷ 3 ∷ [])
     -- C1 factory reply: it is sent, and read as the setting C1 of 1.00
-    ∷ row "0011C1041.00Y\r" (λ s. sent "0010C100U\r" ++ readShownV2 (readV2 1 (v2.Read (Of C1)) s)) (bytes "0011C1041.00Y\r" ++ 0 ∷ 7 ∷ bytes "C11.00")
+    ∷ row "0011C1041.00Y\r" (λ s. sent "0010C100U\r" ++ readShownV2 (readV2 limits 1 (v2.Read (Of C1)) s)) (bytes "0011C1041.00Y\r" ++ 0 ∷ 7 ∷ bytes "C11.00")
     -- LOGIC at factory
-    ∷ row "0012CC010Z\r" (λ s. tableAnswer fresh 64 s .number ∷ []) (12 ∷ [])
+    ∷ row "0012CC010Z\r" (λ s. tableAnswer factoryGauge 64 s .number ∷ []) (12 ∷ [])
     -- V1 reply, factor 1.00: it is sent, and read as 100 hundredths
     ∷ row "001C000100u\r" (λ s. sent "001C1E\r" ++ readShownV1 (readV1 1 ReadFactor s)) (bytes "001C000100u\r" ++ 0 ∷ 4 ∷ 100 ∷ [])
     -- OPG pressure query: a read of PID 14000 in the master unit

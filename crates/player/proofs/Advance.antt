@@ -7,12 +7,13 @@ use lib.ListN.{length}
 use Rattle.buffer.specs.First.{pick}
 use Rattle.script.specs.Script.{callAt, roomOf}
 use Rattle.script.specs.declared.Call.{Call}
+use Rattle.sources.specs.declared.Profile.{Profile}
 use Rattle.player.specs.Played.{Standing, made, advance}
 
-pub advances : (script : List ℕ) (p : Standing) (k : Call) → callAt script (p .at) ≡ k → p .used + roomOf k ≤ length (p .memory) → advance script p ≡ made script p k
+pub advances : (profile : Profile) (script : List ℕ) (p : Standing) (k : Call) → callAt script (p .at) ≡ k → p .used + roomOf k ≤ length (p .memory) → advance profile script p ≡ made profile script p k
 unfolding advance pick
-advances script p k e fits = rw (e, le-ltb (length (p .memory)) (p .used + roomOf k) fits)
+advances profile script p k e fits = rw (e, le-ltb (length (p .memory)) (p .used + roomOf k) fits)
 
-pub stands : (script : List ℕ) (p : Standing) (k : Call) → callAt script (p .at) ≡ k → length (p .memory) < p .used + roomOf k → advance script p ≡ p
+pub stands : (profile : Profile) (script : List ℕ) (p : Standing) (k : Call) → callAt script (p .at) ≡ k → length (p .memory) < p .used + roomOf k → advance profile script p ≡ p
 unfolding advance pick
-stands script p k e small = rw (e, lt-ltb (length (p .memory)) (p .used + roomOf k) small)
+stands profile script p k e small = rw (e, lt-ltb (length (p .memory)) (p .used + roomOf k) small)

@@ -22,6 +22,7 @@ use Rattle.script.specs.declared.To.{To}
 use Rattle.script.specs.declared.To.the-variants.{Text, Opg}
 use Rattle.script.specs.declared.Call.{Call}
 use Rattle.script.specs.declared.Call.the-variants.{Request, Line, SetBench, SetOpgBench, End}
+use Rattle.sources.specs.declared.Profile.{Profile}
 use Rattle.player.specs.Played.{inOrder, answerTo, lineFor, Standing, made, advance, playOf, beginning, ends}
 use Rattle.player.proofs.Advance.{advances}
 use Rattle.player.specs.Encoded.{Fed, request, line, bench, pressure, fed, lentTo, kindOf, benchBytes, pressureBytes, bytesOf, scriptOf, lentToAll, Every, Bytes, Sendable}
@@ -169,27 +170,27 @@ record Next (script : List ℕ) (f : Fed) (rest : List ℕ) (p q : Standing) : T
   used-is : q .used ≡ p .used + lentTo f
   long : length (q .memory) ≡ length (p .memory)
 
-next : (script : List ℕ) (p : Standing) (f : Fed) (rest : List ℕ) → drop (p .at) script ≡ bytesOf f ++ rest → p .used + lentTo f ≤ length (p .memory)
-    → Next script f rest p (made script p (callFor f))
+next : (profile : Profile) (script : List ℕ) (p : Standing) (f : Fed) (rest : List ℕ) → drop (p .at) script ≡ bytesOf f ++ rest → p .used + lentTo f ≤ length (p .memory)
+    → Next script f rest p (made profile script p (callFor f))
 unfolding bytesOf made
-next script p (request to s lent) rest d fits =
+next profile script p (request to s lent) rest d fits =
     let b = request-read script s rest (p .at) (kindOf to) lent (length s) d refl in
     record {
       order = ap₂ (λ (s : List ℕ) (n : ℕ). inOrder fed (p .history) ++ request to s n ∷ []) (b .0) (part-long (p .memory) (p .used) lent fits);
       rest-is = b .1;
       used-is = refl;
-      long = length-sets (p .memory) (p .used) (answerTo to (p .history) (length (take lent (drop (p .used) (p .memory)))) (take (length s) (drop (p .at + 5) script)) .reply);
+      long = length-sets (p .memory) (p .used) (answerTo profile to (p .history) (length (take lent (drop (p .used) (p .memory)))) (take (length s) (drop (p .at + 5) script)) .reply);
     }
-next script p (line lent) rest d fits =
+next profile script p (line lent) rest d fits =
     record {
       order = ap (λ (n : ℕ). inOrder fed (p .history) ++ line n ∷ []) (part-long (p .memory) (p .used) lent fits);
       rest-is = further script (1 ∷ pairBytes lent) rest (p .at) 3 d refl;
       used-is = refl;
-      long = length-sets (p .memory) (p .used) (lineFor (p .history) (length (take lent (drop (p .used) (p .memory)))) .reply);
+      long = length-sets (p .memory) (p .used) (lineFor profile (p .history) (length (take lent (drop (p .used) (p .memory)))) .reply);
     }
-next script p (bench b) rest d fits =
+next profile script p (bench b) rest d fits =
     record { order = refl; rest-is = further script (bytesOf (bench b)) rest (p .at) 10 d (ten b); used-is = omega arith; long = refl }
-next script p (pressure q) rest d fits =
+next profile script p (pressure q) rest d fits =
     record { order = refl; rest-is = further script (bytesOf (pressure q)) rest (p .at) 6 d (six q); used-is = omega arith; long = refl }
 
 -- ---- the play
@@ -208,17 +209,17 @@ none-there : callOf [] ≡ End
 unfolding callOf pick
 none-there = refl
 
-step : (fs : List Fed) (memory : List ℕ) (n : ℕ) (p : Standing) → lentToAll fs ≤ length memory → (left : List Fed) → inOrder fed (p .history) ++ left ≡ fs
+step : (profile : Profile) (fs : List Fed) (memory : List ℕ) (n : ℕ) (p : Standing) → lentToAll fs ≤ length memory → (left : List Fed) → inOrder fed (p .history) ++ left ≡ fs
     → drop (p .at) (scriptOf fs) ≡ scriptOf left → p .used + lentToAll left ≡ lentToAll fs → length (p .memory) ≡ length memory → length left ≡ length fs - n
-    → Walk fs memory (suc n) (advance (scriptOf fs) p)
+    → Walk fs memory (suc n) (advance profile (scriptOf fs) p)
 unfolding scriptOf lentToAll made
-step fs memory n p room [] o r l m c =
-    rw (advances (scriptOf fs) p End (ap callOf r ∙ none-there) (omega arith)) (record { left = []; order = o; rest = r; lent = l; long = m; count = omega arith })
-step fs memory n p room (f ∷ left) o r l m c =
+step profile fs memory n p room [] o r l m c =
+    rw (advances profile (scriptOf fs) p End (ap callOf r ∙ none-there) (omega arith)) (record { left = []; order = o; rest = r; lent = l; long = m; count = omega arith })
+step profile fs memory n p room (f ∷ left) o r l m c =
     let k : callAt (scriptOf fs) (p .at) ≡ callFor f = ap callOf r ∙ front f (scriptOf left) in
     let fits : p .used + lentTo f ≤ length (p .memory) = omega arith in
-    let x = next (scriptOf fs) p f (scriptOf left) r fits in
-    rw (advances (scriptOf fs) p (callFor f) k (subst (λ (n : ℕ). p .used + n ≤ length (p .memory)) (sym (room-is f)) fits))
+    let x = next profile (scriptOf fs) p f (scriptOf left) r fits in
+    rw (advances profile (scriptOf fs) p (callFor f) k (subst (λ (n : ℕ). p .used + n ≤ length (p .memory)) (sym (room-is f)) fits))
     (record {
       left = left;
       order = ap (λ (h : List Fed). h ++ left) (x .order) ∙ append-snoc (inOrder fed (p .history)) f left ∙ o;
@@ -228,20 +229,20 @@ step fs memory n p room (f ∷ left) o r l m c =
       count = omega arith;
     })
 
-walk : (fs : List Fed) (memory : List ℕ) → lentToAll fs ≤ length memory → (n : ℕ) → Walk fs memory n (playOf n (scriptOf fs) (beginning memory))
+walk : (profile : Profile) (fs : List Fed) (memory : List ℕ) → lentToAll fs ≤ length memory → (n : ℕ) → Walk fs memory n (playOf profile n (scriptOf fs) (beginning memory))
 unfolding playOf
-walk fs memory room zero = record { left = fs; order = refl; rest = refl; lent = zero-add (lentToAll fs); long = refl; count = omega arith }
-walk fs memory room (suc n) =
-    let w = walk fs memory room n in
-    step fs memory n (playOf n (scriptOf fs) (beginning memory)) room (w .left) (w .order) (w .rest) (w .lent) (w .long) (w .count)
+walk profile fs memory room zero = record { left = fs; order = refl; rest = refl; lent = zero-add (lentToAll fs); long = refl; count = omega arith }
+walk profile fs memory room (suc n) =
+    let w = walk profile fs memory room n in
+    step profile fs memory n (playOf profile n (scriptOf fs) (beginning memory)) room (w .left) (w .order) (w .rest) (w .lent) (w .long) (w .count)
 
 -- THE THEOREM: with memory for all of them and places for their answers, the calls made are the sequence
 pub plays-all : PlaysAll
-plays-all fs memory numbers lens room n l =
-    let w = walk fs memory room (min (length numbers) (length lens)) in
+plays-all profile fs memory numbers lens room n l =
+    let w = walk profile fs memory room (min (length numbers) (length lens)) in
     go (w .left) (w .order) (w .count)
   where
-    go : (left : List Fed) → inOrder fed (ends (scriptOf fs) memory numbers lens .history) ++ left ≡ fs → length left ≡ length fs - min (length numbers) (length lens)
-        → inOrder fed (ends (scriptOf fs) memory numbers lens .history) ≡ fs
-    go [] order count = sym (append-nil (inOrder fed (ends (scriptOf fs) memory numbers lens .history))) ∙ order
+    go : (left : List Fed) → inOrder fed (ends profile (scriptOf fs) memory numbers lens .history) ++ left ≡ fs → length left ≡ length fs - min (length numbers) (length lens)
+        → inOrder fed (ends profile (scriptOf fs) memory numbers lens .history) ≡ fs
+    go [] order count = sym (append-nil (inOrder fed (ends profile (scriptOf fs) memory numbers lens .history))) ∙ order
     go (f ∷ left) order count = absurd (omega arith)

@@ -8,9 +8,12 @@ use lib.ListN.{length, take, drop}
 use lib.Seq.{sets}
 use Rattle.buffer.specs.First.{_⇒_, first}
 use Rattle.buffer.specs.Answer.{Answer, over}
-use Rattle.readings.specs.Bench.{benchOf, benchNumber}
+use Rattle.sources.specs.declared.Profile.{Profile}
+use Rattle.settings.specs.Limits.{limitsOf}
+use Rattle.readings.specs.Bench.{benchNumber}
 use Rattle.readings.specs.declared.Bench.{Bench}
 use Rattle.line.specs.Line.{lineAnswer}
+use Rattle.gauge_rules.specs.BenchIn.{benchIn}
 use Rattle.gauge_table.specs.After as text-answers
 use Rattle.opg_gauge.specs.State.{benched}
 use Rattle.opg_gauge.specs.declared.Pressure.{Pressure}
@@ -73,14 +76,19 @@ abbrev pub inOrder : {A : Type 0} → (Exchange → A) → History → List A
 inOrder f [] = []
 inOrder f (e ∷ h) = inOrder f h ++ f e ∷ []
 
--- ---- the answers that the rules fix, from the reference models of the calls before
+-- ---- the answers that the rules fix for a text gauge of this profile and an OPG, from the reference models of the calls before
 
-abbrev pub answerTo : To → History → ℕ → List ℕ → Answer
-answerTo Text h room s = text-answers.answerOf (text.model (texts h)) room s
-answerTo Opg h room s = opg-answers.answerOf room (gaugeOf (opg.model (opgs h))) s
+abbrev pub answerTo : Profile → To → History → ℕ → List ℕ → Answer
+answerTo profile Text h room s = text-answers.answerOf (text.model (limitsOf profile) (texts h)) room s
+answerTo profile Opg h room s = opg-answers.answerOf room (gaugeOf (opg.model (opgs h))) s
 
-abbrev pub lineFor : History → ℕ → Answer
-lineFor h room = lineAnswer room (text.model (texts h) .settings) (text.model (texts h) .readings)
+abbrev pub lineFor : Profile → History → ℕ → Answer
+lineFor profile h room =
+    let m = text.model (limitsOf profile) (texts h) in
+    lineAnswer (m .limits) room (m .settings) (m .readings)
+
+abbrev pub benchNumberFor : Profile → History → Bench → ℕ
+benchNumberFor profile h b = benchNumber (benchIn (text.model (limitsOf profile) (texts h) .limits) b)
 
 abbrev pub opgBenchNumber : History → Pressure → ℕ
 opgBenchNumber h q = benched (gaugeOf (opg.model (opgs h))) q .number
@@ -103,27 +111,27 @@ abbrev pub answered : Standing → ℕ → Answer → Exchange → ℕ → Stand
 answered p room a e at = record { history = e ∷ p .history; at = at; used = p .used + room; memory = sets (p .memory) (p .used) (a .reply) }
 
 -- the call that stands next is made, and answered by the rules
-unfoldable pub made : List ℕ → Standing → Call → Standing
-made script p (Request to room len) =
+unfoldable pub made : Profile → List ℕ → Standing → Call → Standing
+made profile script p (Request to room len) =
     let s = take len (drop (p .at + 5) script) in
-    let a = answerTo to (p .history) (length (lent p room)) s in
+    let a = answerTo profile to (p .history) (length (lent p room)) s in
     answered p room a (asked to s (lent p room) (a .number) (length (a .reply)) (over (a .reply) (lent p room))) (p .at + 5 + len)
-made script p (Line room) =
-    let a = lineFor (p .history) (length (lent p room)) in
+made profile script p (Line room) =
+    let a = lineFor profile (p .history) (length (lent p room)) in
     answered p room a (lined (lent p room) (a .number) (length (a .reply)) (over (a .reply) (lent p room))) (p .at + 3)
-made script p (SetBench b) = record { history = benchSet b (benchNumber (benchOf b)) ∷ p .history; at = p .at + 10; used = p .used; memory = p .memory }
-made script p (SetOpgBench q) = record { history = opgBenchSet q (opgBenchNumber (p .history) q) ∷ p .history; at = p .at + 6; used = p .used; memory = p .memory }
-made script p End = p
+made profile script p (SetBench b) = record { history = benchSet b (benchNumberFor profile (p .history) b) ∷ p .history; at = p .at + 10; used = p .used; memory = p .memory }
+made profile script p (SetOpgBench q) = record { history = opgBenchSet q (opgBenchNumber (p .history) q) ∷ p .history; at = p .at + 6; used = p .used; memory = p .memory }
+made profile script p End = p
 
 -- one call more, unless no whole call stands next, or the memory left is too small for it
-unfoldable pub advance : List ℕ → Standing → Standing
-advance script p =
+unfoldable pub advance : Profile → List ℕ → Standing → Standing
+advance profile script p =
     let k = callAt script (p .at) in
-    first (ltb (length (p .memory)) (p .used + roomOf k) ⇒ p ∷ []) (made script p k)
+    first (ltb (length (p .memory)) (p .used + roomOf k) ⇒ p ∷ []) (made profile script p k)
 
-unfoldable pub playOf : ℕ → List ℕ → Standing → Standing
-playOf zero script p = p
-playOf (suc n) script p = advance script (playOf n script p)
+unfoldable pub playOf : Profile → ℕ → List ℕ → Standing → Standing
+playOf profile zero script p = p
+playOf profile (suc n) script p = advance profile script (playOf profile n script p)
 
 -- before the first call
 abbrev pub beginning : List ℕ → Standing
@@ -131,20 +139,21 @@ beginning memory = record { history = []; at = 0; used = 0; memory = memory }
 
 -- ---- what the player promises
 
--- the claim on sequences of calls, for each gauge and the calls that it had
-pub record Claims (h : History) (g : Gauges) : Type 0 where
-  pub of-text-gauge : text.Claim (texts h) (g .text)
+-- the claim on sequences of calls, for each gauge and the calls that it had; the text gauge is of this profile
+pub record Claims (profile : Profile) (h : History) (g : Gauges) : Type 0 where
+  pub of-text-gauge : text.Claim (limitsOf profile) (texts h) (g .text)
+  pub of-its-profile : text.OfProfile profile (g .text)
   pub of-opg-gauge : opg.Claim (opgs h) (g .opg)
 
 -- as many calls as there are places for their answers, as far as the script and the memory go
-abbrev pub ends : (script memory numbers lens : List ℕ) → Standing
-ends script memory numbers lens = playOf (min (length numbers) (length lens)) script (beginning memory)
+abbrev pub ends : Profile → (script memory numbers lens : List ℕ) → Standing
+ends profile script memory numbers lens = playOf profile (min (length numbers) (length lens)) script (beginning memory)
 
 -- The memory is what these calls left; the numbers and lengths of their answers stand in order at the front of `numbers` and `lens`, which are
 -- otherwise as they were; and the claim on sequences holds of these calls and the gauges.
-pub record Ran (script memory numbers lens : List ℕ) (gauges : Gauges) (calls : ℕ) (memory′ numbers′ lens′ : List ℕ) : Type 0 where
-  pub calls-are : calls ≡ length (ends script memory numbers lens .history)
-  pub memory-is : memory′ ≡ ends script memory numbers lens .memory
-  pub numbers-are : numbers′ ≡ inOrder answeredNumber (ends script memory numbers lens .history) ++ drop calls numbers
-  pub lengths-are : lens′ ≡ inOrder lengthOf (ends script memory numbers lens .history) ++ drop calls lens
-  pub claims : Claims (ends script memory numbers lens .history) gauges
+pub record Ran (profile : Profile) (script memory numbers lens : List ℕ) (gauges : Gauges) (calls : ℕ) (memory′ numbers′ lens′ : List ℕ) : Type 0 where
+  pub calls-are : calls ≡ length (ends profile script memory numbers lens .history)
+  pub memory-is : memory′ ≡ ends profile script memory numbers lens .memory
+  pub numbers-are : numbers′ ≡ inOrder answeredNumber (ends profile script memory numbers lens .history) ++ drop calls numbers
+  pub lengths-are : lens′ ≡ inOrder lengthOf (ends profile script memory numbers lens .history) ++ drop calls lens
+  pub claims : Claims profile (ends profile script memory numbers lens .history) gauges

@@ -163,22 +163,28 @@ fn one(g: Gauges, script: &[u8], at: usize, memory: &mut [u8], used: usize) -> T
 
 // ---- the play
 
-fn at_start() -> Gauges
-    ensures { λ r. ⌜ Traces [] r ⌝ }
+fn at_start(profile: sources::Profile) -> Gauges
+    ensures { λ r. ⌜ Traces profile [] r × (r .text .profile ≡ profile) ⌝ }
 {
     Gauges {
-        text: gauge_rules::Gauge::at_start(),
+        text: gauge_rules::Gauge::at_start(profile),
         opg: opg_gauge::Gauge::at_start(),
     }
 }
 
-// Plays the calls of the script on a text gauge and an OPG at factory settings. Each call gets the gauge that the last one left, and the next part
+// Plays the calls of the script on a text gauge of this profile and an OPG at factory settings. Each call gets the gauge that the last one left, and the next part
 // of the memory. Each answer's number and its reply's length are kept. The play ends where no whole call is left, or too little memory for it, or
 // no place for its answer.
-pub fn play(script: &[u8], memory: &mut [u8], numbers: &mut [u16], lens: &mut [u16]) -> Played
-    ensures { λ r. ⌜ Ran (now (script .entry)) (now (memory .entry)) (now (numbers .entry)) (now (lens .entry)) (r .gauges) (r .calls) (now (memory .exit)) (now (numbers .exit)) (now (lens .exit)) ⌝ }
+pub fn play(
+    profile: sources::Profile,
+    script: &[u8],
+    memory: &mut [u8],
+    numbers: &mut [u16],
+    lens: &mut [u16],
+) -> Played
+    ensures { λ r. ⌜ Ran profile (now (script .entry)) (now (memory .entry)) (now (numbers .entry)) (now (lens .entry)) (r .gauges) (r .calls) (now (memory .exit)) (now (numbers .exit)) (now (lens .exit)) ⌝ }
 {
-    let mut g = at_start();
+    let mut g = at_start(profile);
     let mut at: usize = 0;
     let mut used: usize = 0;
     let mut i: usize = 0;

@@ -5,6 +5,7 @@ use call_words::call;
 use call_words::print;
 use print::Shown;
 use script_words::word;
+use sources::Profile;
 
 // The most bytes that HEX has in a line.
 const BYTES_MAX: usize = 32768;
@@ -30,18 +31,19 @@ pub struct Played {
     pub ok: bool,
 }
 
-pub fn at_start() -> World {
+// Both gauges at their start, the text gauge of a profile.
+pub fn at_start(profile: Profile) -> World {
     World {
-        text: gauge_rules::Gauge::at_start(),
+        text: gauge_rules::Gauge::at_start(profile),
         opg: opg_gauge::Gauge::at_start(),
     }
 }
 
 // ---- calls that change a gauge
 
-fn restart() -> Done {
+fn restart(profile: Profile) -> Done {
     Done {
-        world: at_start(),
+        world: at_start(profile),
         shown: print::numbered(print::NONE, 0),
     }
 }
@@ -115,12 +117,13 @@ fn kept(world: World, shown: Shown) -> Done {
 fn write(
     gauge: gauge_rules::Gauge,
     kind: usize,
+    profile: Profile,
     bytes: &[u8],
     memory: &mut [u8],
 ) -> buffer::Written {
     match kind {
         call::LINE => text_gauge::stream_line(gauge, memory),
-        call::REQUEST => rewriter::rewrite_text(bytes, memory),
+        call::REQUEST => rewriter::rewrite_text(profile, bytes, memory),
         _ => rewriter::rewrite_opg(bytes, memory),
     }
 }
@@ -133,18 +136,26 @@ fn show(
     memory: &mut [u8],
 ) -> Shown {
     let kind = call.kind;
+    let profile = call.profile;
     match kind {
-        call::LINE..=call::OPG_REQUEST => print::answered(write(gauge, kind, bytes, memory)),
-        call::REPLY => reply_words::read(call.first, bytes, call.asked),
+        call::LINE..=call::OPG_REQUEST => print::answered(write(
+            gauge,
+            kind,
+            profile,
+            bytes,
+            memory,
+        )),
+        call::REPLY => reply_words::read(profile, call.first, bytes, call.asked),
         call::OPG_REPLY => reply_words::read_opg(bytes, call.asked),
-        _ => request_words::write(kind, call.second, line, memory),
+        _ => request_words::write(kind, profile, call.second, line, memory),
     }
 }
 
 fn perform(world: World, call: Call, line: &[u8], bytes: &[u8], memory: &mut [u8]) -> Done {
     let kind = call.kind;
+    let profile = call.profile;
     match kind {
-        call::RESTART => restart(),
+        call::RESTART => restart(profile),
         call::TEXT => ask_text(world, bytes, memory),
         call::OPG => ask_opg(world, bytes, memory),
         call::BENCH => set_bench(world, word::nth(line, 1), word::nth(line, 2)),

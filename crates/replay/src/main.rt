@@ -1,18 +1,21 @@
 // Plays a script from standard input on one text gauge and one OPG, from factory settings and the bench's start on, and prints one line
 // for each call. A call is a line: words separated by one space, and LF; the last line may end without LF. HEX is an even number of
-// digits 0-9 and a-f, or `-` for no bytes. LENT is the length of the answer memory, 0 to 256, which holds a5 before each call.
-//   restart                            both gauges start again; prints 0
+// digits 0-9 and a-f, or `-` for no bytes. LENT is the length of the answer memory, 0 to 256, which holds a5 before each call. PROFILE is `vsh` or
+// `vsm`; where none is named, it is the third profile.
+//   restart [PROFILE]                  both gauges start again, the text gauge of a profile; prints 0
 //   text LENT HEX                      a request to the text gauge
 //   line LENT                          the text gauge's stream line
 //   opg LENT HEX                       a request to the OPG
 //     each prints NUMBER LENGTH HEX, the reply, and `changed` where a byte after it is not as it was
 //   bench SOURCE VALUE                 a setting of the text gauge's bench; prints its number
 //   opgbench BITS                      the OPG's pressure, eight hex digits of an f32, or `none`; prints its number
-//   request HEX, opgrequest HEX        reads a request and writes it again; prints NUMBER LENGTH HEX
-//   reply ADDRESS HEX HEX              reads a request, and then a reply to it that came from this address
+//   request HEX [PROFILE]              reads a request and writes it again; prints NUMBER LENGTH HEX
+//   opgrequest HEX                     the same for an OPG
+//   reply ADDRESS HEX HEX [PROFILE]    reads a request, and then a reply to it that came from this address
 //   opgreply HEX HEX                   the same for an OPG
 //     these print `value TEXT`, `pressure BITS`, `unit N`, `done`, `error TEXT` or `refused N`
-//   write2 LENT ADDRESS REQUEST        writes a typed V2 request:
+//   write2 LENT ADDRESS REQUEST [PROFILE]
+//                                      writes a typed V2 request:
 //     read COMMAND, restore COMMAND, DA N, DU UNIT, C1 HUNDREDTHS, CM N, CC N, FC N, ST D NUMBER, ST F NUMBER T NUMBER,
 //     SM MODE COUNT CODE CODE CODE CODE CODE CODE CODE
 //     where NUMBER is SIGN MANTISSA PLACE, + or - and the value MANTISSA * 10^(PLACE - 14); UNIT is 0 mbar, 1 Torr, 2 hPa; MODE 0 or 4;
@@ -71,7 +74,7 @@ fn take_turn(world: calls::World, c: Cursor, input: &mut [u8], line: &mut [u8]) 
 
 // Plays the whole input. A proved loop has to end, so it counts its turns down from a number that no run uses up.
 fn play(input: &mut [u8], line: &mut [u8]) {
-    let mut world = calls::at_start();
+    let mut world = calls::at_start(sources::Profile::Standard);
     let mut c = lines::START;
     let mut turns = u64::MAX;
     while 0 < turns {

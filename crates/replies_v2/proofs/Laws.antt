@@ -15,6 +15,7 @@ use Rattle.frames.specs.declared.Frame.{Frame}
 use Rattle.frames.specs.declared.Frame.the-variants.{Silent, V1, Length, V2}
 use Rattle.error_texts.specs.declared.ErrorText.{ErrorText}
 use Rattle.sources.specs.Source.{listOf, Counted}
+use Rattle.settings.specs.Limits.{ProfileLimits}
 use Rattle.settings.specs.declared.Key.the-variants.{DA, DU, C1, CM, CC, FC, ST, SM}
 use Rattle.forms.specs.Judged.{verdictOf, ifSet, listIn}
 use Rattle.forms.specs.Forms.{streamData}
@@ -33,11 +34,11 @@ use Rattle.replies_v2_values.specs.declared.AnswerV2.{AnswerV2}
 -- ---- frames
 
 -- what a frame is as a reply, where byte 3 of its bytes is a digit
-unfoldable pub viaFrame : ℕ → RequestV2 → List ℕ → Frame → ReadV2
-viaFrame address r s (Silent k) = Refused k
-viaFrame address r s (V1 h) = Refused 2
-viaFrame address r s (Length h) = pick (not (eqb (h .address) address)) (Refused 5) (Refused 6)
-viaFrame address r s (V2 h) = pick (not (eqb (h .address) address)) (Refused 5) (bodyReply r h (dataFrom 8 s))
+unfoldable pub viaFrame : ProfileLimits → ℕ → RequestV2 → List ℕ → Frame → ReadV2
+viaFrame limits address r s (Silent k) = Refused k
+viaFrame limits address r s (V1 h) = Refused 2
+viaFrame limits address r s (Length h) = pick (not (eqb (h .address) address)) (Refused 5) (Refused 6)
+viaFrame limits address r s (V2 h) = pick (not (eqb (h .address) address)) (Refused 5) (bodyReply limits r h (dataFrom 8 s))
 
 digit-no-letter : (b : ℕ) → isDigit b ≡ true → isLetter b ≡ false
 unfolding isLetter
@@ -45,26 +46,26 @@ digit-no-letter b e =
     let h = within-true 48 57 b e in
     rw (within-below 65 90 b (omega arith), within-below 97 122 b (omega arith))
 
-by-frame : (address : ℕ) (r : RequestV2) (s : List ℕ) → isDigit (at s 3) ≡ true → viaFrame address r s (frameOf s) ≡ readV2 address r s
+by-frame : (limits : ProfileLimits) (address : ℕ) (r : RequestV2) (s : List ℕ) → isDigit (at s 3) ≡ true → viaFrame limits address r s (frameOf s) ≡ readV2 limits address r s
 unfolding viaFrame frameOf readV2 notV2 bodyReply pick
-by-frame address r s e = rw (e, digit-no-letter (at s 3) e) (go (misshapen s) (wrongSum s) (wrongAddress s) (wrongLength s))
+by-frame limits address r s e = rw (e, digit-no-letter (at s 3) e) (go (misshapen s) (wrongSum s) (wrongAddress s) (wrongLength s))
   where
     go : (m w a l : Bool)
-        → viaFrame address r s (pick m (Silent 2) (pick w (Silent 3) (pick a (Silent 4) (pick l (Length (headV2 s)) (V2 (headV2 s))))))
-        ≡ pick m (Refused 2) (pick w (Refused 3) (pick a (Refused 4) (pick (not (eqb (headV2 s .address) address)) (Refused 5) (pick l (Refused 6) (bodyReply r (headV2 s) (dataFrom 8 s))))))
+        → viaFrame limits address r s (pick m (Silent 2) (pick w (Silent 3) (pick a (Silent 4) (pick l (Length (headV2 s)) (V2 (headV2 s))))))
+        ≡ pick m (Refused 2) (pick w (Refused 3) (pick a (Refused 4) (pick (not (eqb (headV2 s .address) address)) (Refused 5) (pick l (Refused 6) (bodyReply limits r (headV2 s) (dataFrom 8 s))))))
     go true w a l = refl
     go false true a l = refl
     go false false true l = refl
     go false false false true = refl
     go false false false false = refl
 
-pub at-frame : (address : ℕ) (r : RequestV2) (s : List ℕ) (f : Frame) → isDigit (at s 3) ≡ true → frameOf s ≡ f → viaFrame address r s f ≡ readV2 address r s
-at-frame address r s f d e = ap (viaFrame address r s) (sym e) ∙ by-frame address r s d
+pub at-frame : (limits : ProfileLimits) (address : ℕ) (r : RequestV2) (s : List ℕ) (f : Frame) → isDigit (at s 3) ≡ true → frameOf s ≡ f → viaFrame limits address r s f ≡ readV2 limits address r s
+at-frame limits address r s f d e = ap (viaFrame limits address r s) (sym e) ∙ by-frame limits address r s d
 
 -- bytes whose byte 3 is no digit
-pub no-frame : (address : ℕ) (r : RequestV2) (s : List ℕ) → not (isDigit (at s 3)) ≡ true → Refused 2 ≡ readV2 address r s
+pub no-frame : (limits : ProfileLimits) (address : ℕ) (r : RequestV2) (s : List ℕ) → not (isDigit (at s 3)) ≡ true → Refused 2 ≡ readV2 limits address r s
 unfolding readV2 notV2
-no-frame address r s e = stop _ _ _ _ (rw e) refl
+no-frame limits address r s e = stop _ _ _ _ (rw e) refl
 
 -- ---- the list beside a reply
 
@@ -86,22 +87,22 @@ unfolding beside heldReply ifSet
 beside-held (verdict.Set x) list = refl
 beside-held (verdict.Refused k) list = refl
 
-beside-data : (r : RequestV2) (s : List ℕ) → beside (dataReply r s) (dataList r s) ≡ dataList r s
+beside-data : (limits : ProfileLimits) (r : RequestV2) (s : List ℕ) → beside (dataReply limits r s) (dataList limits r s) ≡ dataList limits r s
 unfolding dataReply dataList valueReply valueList settingReply verdictOf listIn
-beside-data (request.Read MV) s = beside-none (dataReply (request.Read MV) s)
-beside-data (request.Read T2) s = beside-none (dataReply (request.Read T2) s)
-beside-data (request.Read FN) s = beside-none (dataReply (request.Read FN) s)
-beside-data (request.Read FS) s = beside-none (dataReply (request.Read FS) s)
-beside-data (request.Read (Of DA)) s = beside-none (dataReply (request.Read (Of DA)) s)
-beside-data (request.Read (Of DU)) s = beside-none (dataReply (request.Read (Of DU)) s)
-beside-data (request.Read (Of C1)) s = beside-none (dataReply (request.Read (Of C1)) s)
-beside-data (request.Read (Of CM)) s = beside-none (dataReply (request.Read (Of CM)) s)
-beside-data (request.Read (Of CC)) s = beside-none (dataReply (request.Read (Of CC)) s)
-beside-data (request.Read (Of FC)) s = beside-none (dataReply (request.Read (Of FC)) s)
-beside-data (request.Read (Of ST)) s = beside-none (dataReply (request.Read (Of ST)) s)
-beside-data (request.Read (Of SM)) s = beside-held (streamData s) _
-beside-data (request.Restore c) s = beside-none (dataReply (request.Restore c) s)
-beside-data (request.Set x) s = beside-none (dataReply (request.Set x) s)
+beside-data limits (request.Read MV) s = beside-none (dataReply limits (request.Read MV) s)
+beside-data limits (request.Read T2) s = beside-none (dataReply limits (request.Read T2) s)
+beside-data limits (request.Read FN) s = beside-none (dataReply limits (request.Read FN) s)
+beside-data limits (request.Read FS) s = beside-none (dataReply limits (request.Read FS) s)
+beside-data limits (request.Read (Of DA)) s = beside-none (dataReply limits (request.Read (Of DA)) s)
+beside-data limits (request.Read (Of DU)) s = beside-none (dataReply limits (request.Read (Of DU)) s)
+beside-data limits (request.Read (Of C1)) s = beside-none (dataReply limits (request.Read (Of C1)) s)
+beside-data limits (request.Read (Of CM)) s = beside-none (dataReply limits (request.Read (Of CM)) s)
+beside-data limits (request.Read (Of CC)) s = beside-none (dataReply limits (request.Read (Of CC)) s)
+beside-data limits (request.Read (Of FC)) s = beside-none (dataReply limits (request.Read (Of FC)) s)
+beside-data limits (request.Read (Of ST)) s = beside-none (dataReply limits (request.Read (Of ST)) s)
+beside-data limits (request.Read (Of SM)) s = beside-held (streamData limits s) _
+beside-data limits (request.Restore c) s = beside-none (dataReply limits (request.Restore c) s)
+beside-data limits (request.Set x) s = beside-none (dataReply limits (request.Set x) s)
 
 error-row : (t : Bool) (e : ErrorText) (x : ReadV2) (list : List ℕ) → beside x list ≡ [] → beside (pick t (Read (Error e)) x) list ≡ []
 unfolding beside pick
@@ -114,16 +115,16 @@ beside-error s list = error-row _ _ _ list (error-row _ _ _ list (error-row _ _ 
 
 -- ---- what a reader answers
 
-pub refuses : (address : ℕ) (r : RequestV2) (s : List ℕ) (a : AnswerV2) (k : ℕ) → (a .read ≡ Refused k) × (listOf (a .sources) ≡ []) × Counted (a .sources) → Refused k ≡ readV2 address r s → ReadsV2 address r s a
+pub refuses : (limits : ProfileLimits) (address : ℕ) (r : RequestV2) (s : List ℕ) (a : AnswerV2) (k : ℕ) → (a .read ≡ Refused k) × (listOf (a .sources) ≡ []) × Counted (a .sources) → Refused k ≡ readV2 limits address r s → ReadsV2 limits address r s a
 unfolding readList beside
-refuses address r s a k e h = record { read = e .0 ∙ h; list = rw (← h) (e .1); count = e .2 }
+refuses limits address r s a k e h = record { read = e .0 ∙ h; list = rw (← h) (e .1); count = e .2 }
 
-pub from-body : (address : ℕ) (r : RequestV2) (h : HeadV2) (s : List ℕ) (a : AnswerV2) → BodyReads r h (dataFrom 8 s) a → bodyReply r h (dataFrom 8 s) ≡ readV2 address r s → ReadsV2 address r s a
+pub from-body : (limits : ProfileLimits) (address : ℕ) (r : RequestV2) (h : HeadV2) (s : List ℕ) (a : AnswerV2) → BodyReads limits r h (dataFrom 8 s) a → bodyReply limits r h (dataFrom 8 s) ≡ readV2 limits address r s → ReadsV2 limits address r s a
 unfolding readList
-from-body address r h s a b e = record { read = b .read ∙ e; list = rw (← e) (b .list); count = b .count }
+from-body limits address r h s a b e = record { read = b .read ∙ e; list = rw (← e) (b .list); count = b .count }
 
-pub alone : (r : RequestV2) (h : HeadV2) (s : List ℕ) (a : AnswerV2) (x : ReadV2) → a .read ≡ x → listOf (a .sources) ≡ [] → Counted (a .sources) → x ≡ bodyReply r h s → beside x (dataList r s) ≡ [] → BodyReads r h s a
-alone r h s a x e l c b n = record { read = e ∙ b; list = rw (← b) (l ∙ sym n); count = c }
+pub alone : (limits : ProfileLimits) (r : RequestV2) (h : HeadV2) (s : List ℕ) (a : AnswerV2) (x : ReadV2) → a .read ≡ x → listOf (a .sources) ≡ [] → Counted (a .sources) → x ≡ bodyReply limits r h s → beside x (dataList limits r s) ≡ [] → BodyReads limits r h s a
+alone limits r h s a x e l c b n = record { read = e ∙ b; list = rw (← b) (l ∙ sym n); count = c }
 
-pub from-data : (r : RequestV2) (h : HeadV2) (s : List ℕ) (a : AnswerV2) → DataReads r s a → dataReply r s ≡ bodyReply r h s → BodyReads r h s a
-from-data r h s a d e = record { read = d .read ∙ e; list = rw (← e) (d .list ∙ sym (beside-data r s)); count = d .count }
+pub from-data : (limits : ProfileLimits) (r : RequestV2) (h : HeadV2) (s : List ℕ) (a : AnswerV2) → DataReads limits r s a → dataReply limits r s ≡ bodyReply limits r h s → BodyReads limits r h s a
+from-data limits r h s a d e = record { read = d .read ∙ e; list = rw (← e) (d .list ∙ sym (beside-data limits r s)); count = d .count }

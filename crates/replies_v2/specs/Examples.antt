@@ -1,10 +1,13 @@
--- Document 01, "The master's side": worked cases of the V2 reply reader, their answers taken from the paper.
+-- Document 01, "The master's side", and document 02, "Hot cathode gauges": worked cases of the V2 reply reader, their answers taken from the papers.
 use mathlib.Core.Bool.{Bool, _&&_}
 use mathlib.Core.List.{List, [], _∷_, _++_}
 use Prim.Native.Nat.{ℕ}
 use Prim.Native.String.{String}
 use Rattle.buffer.specs.Byte.{sameText}
 use Rattle.buffer.specs.Quoted.{bytes}
+use Rattle.sources.specs.declared.Profile.{Profile}
+use Rattle.sources.specs.declared.Profile.the-variants.{Standard, Vsh, Vsm}
+use Rattle.settings.specs.Limits.{limitsOf}
 use Rattle.settings.specs.declared.Key.the-variants.{DA, DU, C1, CM, ST, SM}
 use Rattle.settings.specs.declared.Setting.the-variants.{Address, Factor}
 use Rattle.requests.specs.declared.Command.the-variants.{MV, T2, FN, FS, Of}
@@ -12,16 +15,20 @@ use Rattle.requests.specs.declared.RequestV2.{RequestV2}
 use Rattle.requests.specs.declared.RequestV2.the-variants as ask
 use Rattle.replies_v2.specs.ReplyV2.{readV2, readList, readShownV2}
 
--- the address and the request that the reader is told, the bytes, what they are read as, and the list beside it
+-- the profile, the address and the request that the reader is told, the bytes, what they are read as, and the list beside it
 pub record Case : Type 0 where
+  pub profile : Profile
   pub address : ℕ
   pub request : RequestV2
   pub frame : List ℕ
   pub shown : List ℕ
   pub list : List ℕ
 
+abbrev pub readsOn : Profile → RequestV2 → String → List ℕ → List ℕ → Case
+readsOn p r frame shown list = record { profile = p; address = 1; request = r; frame = bytes frame ++ (13 ∷ []); shown = shown; list = list }
+
 abbrev pub reads : RequestV2 → String → List ℕ → Case
-reads r frame shown = record { address = 1; request = r; frame = bytes frame ++ (13 ∷ []); shown = shown; list = [] }
+reads r frame shown = record { profile = Standard; address = 1; request = r; frame = bytes frame ++ (13 ∷ []); shown = shown; list = [] }
 
 abbrev pub cases : List Case
 cases =
@@ -67,7 +74,7 @@ cases =
     ∷ reads (ask.Read MV) "0021MV031e0O" (5 ∷ [])
     -- a write of DA is answered from the old address
     ∷ reads (ask.Set (Address 5)) "0013DA00i" (0 ∷ 8 ∷ [])
-    ∷ record { address = 5; request = ask.Set (Address 5); frame = bytes "0013DA00i" ++ (13 ∷ []); shown = 5 ∷ []; list = [] }
+    ∷ record { profile = Standard; address = 5; request = ask.Set (Address 5); frame = bytes "0013DA00i" ++ (13 ∷ []); shown = 5 ∷ []; list = [] }
     -- write and default replies carry no data
     ∷ reads (ask.Set (Factor 100)) "0013C1041.00[" (10 ∷ [])
     ∷ reads (ask.Restore (Of C1)) "0015C100Z" (0 ∷ 8 ∷ [])
@@ -95,8 +102,8 @@ cases =
     -- the factory value, on the lower limit
     ∷ reads (ask.Read (Of ST)) "0011ST04D1e0W" (0 ∷ 7 ∷ bytes "STD1e0")
     -- the list stands beside the answer
-    ∷ record { address = 1; request = ask.Read (Of SM); frame = bytes "0011SM064D7DT2A" ++ (13 ∷ []); shown = 0 ∷ 7 ∷ bytes "SM4"; list = 7 ∷ 8 ∷ [] }
-    ∷ record { address = 1; request = ask.Read (Of SM); frame = bytes "0011SM154D1D2D6D7DT2DT6t" ++ (13 ∷ []); shown = 0 ∷ 7 ∷ bytes "SM4"; list = 1 ∷ 2 ∷ 6 ∷ 7 ∷ 8 ∷ 9 ∷ [] }
+    ∷ record { profile = Standard; address = 1; request = ask.Read (Of SM); frame = bytes "0011SM064D7DT2A" ++ (13 ∷ []); shown = 0 ∷ 7 ∷ bytes "SM4"; list = 7 ∷ 8 ∷ [] }
+    ∷ record { profile = Standard; address = 1; request = ask.Read (Of SM); frame = bytes "0011SM154D1D2D6D7DT2DT6t" ++ (13 ∷ []); shown = 0 ∷ 7 ∷ bytes "SM4"; list = 1 ∷ 2 ∷ 6 ∷ 7 ∷ 8 ∷ 9 ∷ [] }
     ∷ reads (ask.Read (Of SM)) "0011SM014w" (0 ∷ 7 ∷ bytes "SM4")
     -- a repeat or a listed `0`, after 10 and 11
     ∷ reads (ask.Read (Of SM)) "0011SM054D7D7q" (12 ∷ [])
@@ -107,7 +114,33 @@ cases =
     ∷ reads (ask.Read (Of SM)) "0011SM030D7p" (10 ∷ [])
     ∷ reads (ask.Read (Of DA)) "0011DA03017B" (11 ∷ [])
     ∷ reads (ask.Read (Of DU)) "0011DU03Pa O" (10 ∷ [])
+    -- ST by the profile: the third, VSH, VSM
+    ∷ reads (ask.Read (Of ST)) "0011ST05D1e-3H" (11 ∷ [])
+    ∷ readsOn Vsh (ask.Read (Of ST)) "0011ST05D1e-3H" (0 ∷ 7 ∷ bytes "STD1e-3") []
+    ∷ readsOn Vsm (ask.Read (Of ST)) "0011ST05D1e-3H" (0 ∷ 7 ∷ bytes "STD1e-3") []
+    ∷ reads (ask.Read (Of ST)) "0011ST05D5e-3L" (11 ∷ [])
+    ∷ readsOn Vsh (ask.Read (Of ST)) "0011ST05D5e-3L" (0 ∷ 7 ∷ bytes "STD5e-3") []
+    ∷ readsOn Vsm (ask.Read (Of ST)) "0011ST05D5e-3L" (11 ∷ []) []
+    ∷ readsOn Vsh (ask.Read (Of ST)) "0011ST04D1e0W" (11 ∷ []) []
+    ∷ readsOn Vsm (ask.Read (Of ST)) "0011ST04D1e0W" (11 ∷ []) []
+    -- the `F` form, whatever its numbers
+    ∷ reads (ask.Read (Of ST)) "0011ST10F5e0T1.5e1X" (0 ∷ 7 ∷ bytes "STF5e0T1.5e1")
+    ∷ readsOn Vsh (ask.Read (Of ST)) "0011ST10F5e0T1.5e1X" (10 ∷ []) []
+    ∷ readsOn Vsm (ask.Read (Of ST)) "0011ST10F5e0T1.5e1X" (10 ∷ []) []
+    ∷ reads (ask.Read (Of ST)) "0011ST10F1e-3T2e-3Q" (11 ∷ [])
+    ∷ readsOn Vsh (ask.Read (Of ST)) "0011ST10F1e-3T2e-3Q" (10 ∷ []) []
+    ∷ readsOn Vsm (ask.Read (Of ST)) "0011ST10F1e-3T2e-3Q" (10 ∷ []) []
+    -- SM by the profile's sources
+    ∷ readsOn Standard (ask.Read (Of SM)) "0011SM034D7t" (0 ∷ 7 ∷ bytes "SM4") (7 ∷ [])
+    ∷ readsOn Vsh (ask.Read (Of SM)) "0011SM034D7t" (11 ∷ []) []
+    ∷ readsOn Vsm (ask.Read (Of SM)) "0011SM034D7t" (11 ∷ []) []
+    ∷ readsOn Standard (ask.Read (Of SM)) "0011SM064D1DT2{" (0 ∷ 7 ∷ bytes "SM4") (1 ∷ 8 ∷ [])
+    ∷ readsOn Vsh (ask.Read (Of SM)) "0011SM064D1DT2{" (0 ∷ 7 ∷ bytes "SM4") (1 ∷ 8 ∷ [])
+    ∷ readsOn Vsm (ask.Read (Of SM)) "0011SM064D1DT2{" (0 ∷ 7 ∷ bytes "SM4") (1 ∷ 8 ∷ [])
+    ∷ reads (ask.Read (Of SM)) "0011SM054D1D1e" (12 ∷ [])
+    ∷ readsOn Vsh (ask.Read (Of SM)) "0011SM054D1D1e" (12 ∷ []) []
+    ∷ readsOn Vsm (ask.Read (Of SM)) "0011SM054D1D1e" (12 ∷ []) []
     ∷ []
 
 abbrev pub right : Case → Bool
-right c = sameText (readShownV2 (readV2 (c .address) (c .request) (c .frame))) (c .shown) && sameText (readList (c .address) (c .request) (c .frame)) (c .list)
+right c = sameText (readShownV2 (readV2 (limitsOf (c .profile)) (c .address) (c .request) (c .frame))) (c .shown) && sameText (readList (limitsOf (c .profile)) (c .address) (c .request) (c .frame)) (c .list)

@@ -14,6 +14,7 @@ use Rattle.error_texts.specs.Texts.{errorBytes}
 use Rattle.error_texts.specs.declared.ErrorText.{ErrorText}
 use Rattle.error_texts.specs.declared.ErrorText.the-variants as error
 use Rattle.sources.specs.Source.{listOf, Counted}
+use Rattle.settings.specs.Limits.{ProfileLimits}
 use Rattle.requests.specs.Command.{commandText}
 use Rattle.requests.specs.declared.RequestV2.{RequestV2}
 use Rattle.requests.specs.declared.RequestV2.the-variants as request
@@ -57,23 +58,23 @@ errorReply s = first (map (λ (e : ErrorText). sameText s (errorBytes e) ⇒ Rea
 unfoldable pub doneReply : List ℕ → ReadV2
 doneReply s = first (not (eqb (length s) 0) ⇒ Refused 10 ∷ []) (Read Done)
 
-unfoldable pub dataReply : RequestV2 → List ℕ → ReadV2
-dataReply (request.Read c) s = valueReply c s
-dataReply (request.Restore c) s = doneReply s
-dataReply (request.Set x) s = doneReply s
+unfoldable pub dataReply : ProfileLimits → RequestV2 → List ℕ → ReadV2
+dataReply limits (request.Read c) s = valueReply limits c s
+dataReply limits (request.Restore c) s = doneReply s
+dataReply limits (request.Set x) s = doneReply s
 
 -- a head and its data: "14 (access neither request plus 1 nor 7, or another command), 10, 11", and 12 for SM's list
-unfoldable pub bodyReply : RequestV2 → HeadV2 → List ℕ → ReadV2
-bodyReply r h s =
+unfoldable pub bodyReply : ProfileLimits → RequestV2 → HeadV2 → List ℕ → ReadV2
+bodyReply limits r h s =
     first
     (mismatched r h ⇒ Refused 14
     ∷ eqb (h .access) errorCode ⇒ errorReply s
     ∷ [])
-    (dataReply r s)
+    (dataReply limits r s)
 
 -- any bytes: "in the order 2 (V1 frames too), 3, 4, 5, 6", and then 14, 10, 11 and 12
-unfoldable pub readV2 : ℕ → RequestV2 → List ℕ → ReadV2
-readV2 address r s =
+unfoldable pub readV2 : ProfileLimits → ℕ → RequestV2 → List ℕ → ReadV2
+readV2 limits address r s =
     first
     (notV2 s ⇒ Refused 2
     ∷ wrongSum s ⇒ Refused 3
@@ -81,7 +82,7 @@ readV2 address r s =
     ∷ not (eqb (headV2 s .address) address) ⇒ Refused 5
     ∷ wrongLength s ⇒ Refused 6
     ∷ [])
-    (bodyReply r (headV2 s) (dataFrom 8 s))
+    (bodyReply limits r (headV2 s) (dataFrom 8 s))
 
 -- the sources of a read of SM stand beside its accepted value, and beside nothing else
 unfoldable pub beside : ReadV2 → List ℕ → List ℕ
@@ -96,29 +97,29 @@ beside (Read Done) list = []
 beside (Read (Error e)) list = []
 beside (Refused k) list = []
 
-unfoldable pub dataList : RequestV2 → List ℕ → List ℕ
-dataList (request.Read c) s = valueList c s
-dataList (request.Restore c) s = []
-dataList (request.Set x) s = []
+unfoldable pub dataList : ProfileLimits → RequestV2 → List ℕ → List ℕ
+dataList limits (request.Read c) s = valueList limits c s
+dataList limits (request.Restore c) s = []
+dataList limits (request.Set x) s = []
 
-unfoldable pub readList : ℕ → RequestV2 → List ℕ → List ℕ
-readList address r s = beside (readV2 address r s) (dataList r (dataFrom 8 s))
+unfoldable pub readList : ProfileLimits → ℕ → RequestV2 → List ℕ → List ℕ
+readList limits address r s = beside (readV2 limits address r s) (dataList limits r (dataFrom 8 s))
 
-pub record ReadsV2 (address : ℕ) (r : RequestV2) (s : List ℕ) (a : AnswerV2) : Type 0 where
-  pub read : a .read ≡ readV2 address r s
-  pub list : listOf (a .sources) ≡ readList address r s
+pub record ReadsV2 (limits : ProfileLimits) (address : ℕ) (r : RequestV2) (s : List ℕ) (a : AnswerV2) : Type 0 where
+  pub read : a .read ≡ readV2 limits address r s
+  pub list : listOf (a .sources) ≡ readList limits address r s
   pub count : Counted (a .sources)
 
 -- ---- the same for the data alone, and for a head and its data
 
-pub record DataReads (r : RequestV2) (s : List ℕ) (a : AnswerV2) : Type 0 where
-  pub read : a .read ≡ dataReply r s
-  pub list : listOf (a .sources) ≡ dataList r s
+pub record DataReads (limits : ProfileLimits) (r : RequestV2) (s : List ℕ) (a : AnswerV2) : Type 0 where
+  pub read : a .read ≡ dataReply limits r s
+  pub list : listOf (a .sources) ≡ dataList limits r s
   pub count : Counted (a .sources)
 
-pub record BodyReads (r : RequestV2) (h : HeadV2) (s : List ℕ) (a : AnswerV2) : Type 0 where
-  pub read : a .read ≡ bodyReply r h s
-  pub list : listOf (a .sources) ≡ beside (bodyReply r h s) (dataList r s)
+pub record BodyReads (limits : ProfileLimits) (r : RequestV2) (h : HeadV2) (s : List ℕ) (a : AnswerV2) : Type 0 where
+  pub read : a .read ≡ bodyReply limits r h s
+  pub list : listOf (a .sources) ≡ beside (bodyReply limits r h s) (dataList limits r s)
   pub count : Counted (a .sources)
 
 -- ---- answers

@@ -2,6 +2,7 @@
 ghost use mathlib.Core.Path.{_≡_};
 ghost use Rattle.buffer.specs.Byte.{at, isDigit, sameText};
 ghost use Rattle.error_texts.specs.Texts.{errorBytes};
+ghost use Rattle.settings.specs.Limits.{limitsOf};
 ghost use Rattle.replies_v2.specs.ReplyV2.{otherAccess, otherCommand, mismatched, errorReply, doneReply, DataReads, BodyReads, ReadsV2};
 use replies_v2_values::AnswerV2;
 use replies_v2_values::ReadV2;
@@ -19,13 +20,13 @@ fn read_done(s: &[u8]) -> ReadV2
 }
 
 // The data of a reply that does not refuse.
-fn read_data(request: RequestV2, s: &[u8]) -> AnswerV2
-    ensures { λ r. ⌜ DataReads request (now (s .entry)) r ⌝ }
+fn read_data(profile: sources::Profile, request: RequestV2, s: &[u8]) -> AnswerV2
+    ensures { λ r. ⌜ DataReads (limitsOf profile) request (now (s .entry)) r ⌝ }
 {
     let RequestV2::Read(command) = request else {
         return replies_v2_values::plain(read_done(s));
     };
-    replies_v2_values::read_value(command, s)
+    replies_v2_values::read_value(profile, command, s)
 }
 
 // The data of a reply that refuses: one of the six error texts.
@@ -85,8 +86,13 @@ fn is_mismatched(request: RequestV2, head: frames::HeadV2) -> bool
 }
 
 // A V2 frame with this head and these data.
-fn read_body(request: RequestV2, head: frames::HeadV2, s: &[u8]) -> AnswerV2
-    ensures { λ r. ⌜ BodyReads request head (now (s .entry)) r ⌝ }
+fn read_body(
+    profile: sources::Profile,
+    request: RequestV2,
+    head: frames::HeadV2,
+    s: &[u8],
+) -> AnswerV2
+    ensures { λ r. ⌜ BodyReads (limitsOf profile) request head (now (s .entry)) r ⌝ }
 {
     if is_mismatched(request, head) {
         return replies_v2_values::plain(ReadV2::Refused(14));
@@ -94,7 +100,7 @@ fn read_body(request: RequestV2, head: frames::HeadV2, s: &[u8]) -> AnswerV2
     if head.access == b'7' {
         return replies_v2_values::plain(read_error(s));
     }
-    read_data(request, s)
+    read_data(profile, request, s)
 }
 
 // Whether byte 3 is a digit.
@@ -107,9 +113,14 @@ fn has_digit(s: &[u8]) -> bool
     buffer::is_within(s[3], 48, 57)
 }
 
-// Any bytes as the reply to a request that was sent to this address, or the first refusal that applies.
-pub fn read_reply_v2(address: u16, request: RequestV2, s: &[u8]) -> AnswerV2
-    ensures { λ r. ⌜ ReadsV2 address request (now (s .entry)) r ⌝ }
+// Any bytes as the reply to a request that was sent to a gauge of this profile at this address, or the first refusal that applies.
+pub fn read_reply_v2(
+    profile: sources::Profile,
+    address: u16,
+    request: RequestV2,
+    s: &[u8],
+) -> AnswerV2
+    ensures { λ r. ⌜ ReadsV2 (limitsOf profile) address request (now (s .entry)) r ⌝ }
 {
     if !has_digit(s) {
         return replies_v2_values::plain(ReadV2::Refused(2));
@@ -127,7 +138,7 @@ pub fn read_reply_v2(address: u16, request: RequestV2, s: &[u8]) -> AnswerV2
             if head.address != address {
                 return replies_v2_values::plain(ReadV2::Refused(5));
             }
-            read_body(request, head, frames::data_v2(s))
+            read_body(profile, request, head, frames::data_v2(s))
         }
     }
 }

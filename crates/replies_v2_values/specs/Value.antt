@@ -18,7 +18,7 @@ use Rattle.settings.specs.declared.Key.{Key}
 use Rattle.settings.specs.declared.Key.the-variants.{DA, DU, C1, CM, CC, FC, ST, SM}
 use Rattle.settings.specs.declared.Setting.the-variants.{Switch}
 use Rattle.settings.specs.declared.Transition.the-variants.{Between}
-use Rattle.settings.specs.Limits.{benchLimits}
+use Rattle.settings.specs.Limits.{ProfileLimits, benchLimits}
 use Rattle.readings.specs.Reading.{underText, overText}
 use Rattle.readings.specs.Bench.{takes, outsideDegrees}
 use Rattle.forms.specs.Forms.{digitData, directOf, endsOf}
@@ -78,7 +78,7 @@ unfoldable pub heldReply : Verdict → ReadV2
 heldReply (verdict.Set x) = Read (Holds x)
 heldReply (verdict.Refused k) = ReadV2.Refused k
 
--- ST: "each 1 to 20", in any order: this reader has 12 for lists only. SYNTAX of either number comes before RANGE of the other
+-- ST: the profile's numbers, in any order: this reader has 12 for lists only. SYNTAX of either number comes before RANGE of the other
 unfoldable pub bothEnds : Limited → Limited → ReadV2
 bothEnds (Fine low) (Fine high) = Read (Holds (Switch (Between low high)))
 bothEnds (Fine low) (Limited.Refused k) = ReadV2.Refused k
@@ -91,33 +91,33 @@ transitionReply None = ReadV2.Refused 10
 transitionReply (One n) = heldReply (directOf n)
 transitionReply (Two low high) = bothEnds low high
 
-unfoldable pub settingReply : Key → List ℕ → ReadV2
-settingReply DA s = heldReply (verdictOf DA s)
-settingReply DU s = heldReply (verdictOf DU s)
-settingReply C1 s = heldReply (verdictOf C1 s)
-settingReply CM s = heldReply (verdictOf CM s)
-settingReply CC s = heldReply (verdictOf CC s)
-settingReply FC s = heldReply (verdictOf FC s)
-settingReply ST s = transitionReply (endsOf s)
-settingReply SM s = heldReply (verdictOf SM s)
+unfoldable pub settingReply : ProfileLimits → Key → List ℕ → ReadV2
+settingReply limits DA s = heldReply (verdictOf limits DA s)
+settingReply limits DU s = heldReply (verdictOf limits DU s)
+settingReply limits C1 s = heldReply (verdictOf limits C1 s)
+settingReply limits CM s = heldReply (verdictOf limits CM s)
+settingReply limits CC s = heldReply (verdictOf limits CC s)
+settingReply limits FC s = heldReply (verdictOf limits FC s)
+settingReply limits ST s = transitionReply (endsOf limits s)
+settingReply limits SM s = heldReply (verdictOf limits SM s)
 
 -- the column "Data", a line for each command
-unfoldable pub valueReply : Command → List ℕ → ReadV2
-valueReply MV s = pressureReply s
-valueReply T2 s = temperatureReply (numberOf s)
-valueReply FN s = filamentReply (digitData (benchLimits .filamentHigh) s)
-valueReply FS s = statusReply (digitData (benchLimits .statusHigh) s)
-valueReply (Of key) s = settingReply key s
+unfoldable pub valueReply : ProfileLimits → Command → List ℕ → ReadV2
+valueReply limits MV s = pressureReply s
+valueReply limits T2 s = temperatureReply (numberOf s)
+valueReply limits FN s = filamentReply (digitData (benchLimits .filamentHigh) s)
+valueReply limits FS s = statusReply (digitData (benchLimits .statusHigh) s)
+valueReply limits (Of key) s = settingReply limits key s
 
 -- the sources that an accepted read of SM lists; none otherwise
-unfoldable pub valueList : Command → List ℕ → List ℕ
-valueList MV s = []
-valueList T2 s = []
-valueList FN s = []
-valueList FS s = []
-valueList (Of key) s = listIn key s
+unfoldable pub valueList : ProfileLimits → Command → List ℕ → List ℕ
+valueList limits MV s = []
+valueList limits T2 s = []
+valueList limits FN s = []
+valueList limits FS s = []
+valueList limits (Of key) s = listIn limits key s
 
-pub record Values (c : Command) (s : List ℕ) (r : AnswerV2) : Type 0 where
-  pub read : r .read ≡ valueReply c s
-  pub list : listOf (r .sources) ≡ valueList c s
+pub record Values (limits : ProfileLimits) (c : Command) (s : List ℕ) (r : AnswerV2) : Type 0 where
+  pub read : r .read ≡ valueReply limits c s
+  pub list : listOf (r .sources) ≡ valueList limits c s
   pub count : Counted (r .sources)

@@ -3,6 +3,7 @@ ghost use mathlib.Core.Path.{_≡_};
 ghost use mathlib.Core.List.{[]};
 ghost use Rattle.decimal.specs.Form.{parsedNumber};
 ghost use Rattle.sources.specs.Source.{listOf, Counted};
+ghost use Rattle.settings.specs.Limits.{limitsOf};
 ghost use Rattle.requests.specs.declared.Command.{Command};
 ghost use Rattle.replies_v2_values.specs.Value.{measuredReply, pressureReply, degreesReply, temperatureReply, filamentReply, statusReply, heldReply, bothEnds, transitionReply, Values};
 use requests::Command;
@@ -171,11 +172,11 @@ fn transition_in(ends: forms::Ends) -> ReadV2
 }
 
 // A setting's value: every setting but ST is read as a write of it.
-fn read_setting(key: settings::Key, s: &[u8]) -> AnswerV2
-    ensures { λ r. ⌜ Values (Command.Of key) (now (s .entry)) r ⌝ }
+fn read_setting(profile: sources::Profile, key: settings::Key, s: &[u8]) -> AnswerV2
+    ensures { λ r. ⌜ Values (limitsOf profile) (Command.Of key) (now (s .entry)) r ⌝ }
 {
     let settings::Key::ST = key else {
-        let judged = forms::judge(key, s);
+        let judged = forms::judge(profile, key, s);
         let verdict = judged.verdict;
         let sources = judged.sources;
         return AnswerV2 {
@@ -183,18 +184,18 @@ fn read_setting(key: settings::Key, s: &[u8]) -> AnswerV2
             sources,
         };
     };
-    plain(transition_in(forms::read_ends(s)))
+    plain(transition_in(forms::read_ends(profile, s)))
 }
 
-// The data of the reply to a read.
-pub fn read_value(command: Command, s: &[u8]) -> AnswerV2
-    ensures { λ r. ⌜ Values command (now (s .entry)) r ⌝ }
+// The data of the reply to a read, from a gauge of this profile.
+pub fn read_value(profile: sources::Profile, command: Command, s: &[u8]) -> AnswerV2
+    ensures { λ r. ⌜ Values (limitsOf profile) command (now (s .entry)) r ⌝ }
 {
     match command {
         Command::MV => plain(read_pressure(s)),
         Command::T2 => plain(temperature_in(decimal::read_number(s))),
         Command::FN => plain(filament_in(forms::judge_digit(s, readings::Readings::FILAMENT_MAX))),
         Command::FS => plain(status_in(forms::judge_digit(s, readings::Readings::STATUS_MAX))),
-        Command::Of(key) => read_setting(key, s),
+        Command::Of(key) => read_setting(profile, key, s),
     }
 }

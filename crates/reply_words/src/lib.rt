@@ -17,6 +17,7 @@ use requests::Command;
 use requests::RequestV1;
 use requests::RequestV2;
 use script_words::word;
+use sources::Profile;
 
 fn refused(number: u16) -> Shown {
     print::numbered(print::REFUSED, number)
@@ -161,8 +162,8 @@ fn show_v2(request: RequestV2, reply: ReplyV2, list: sources::Sources) -> Shown 
     }
 }
 
-fn read_v2(address: u16, request: RequestV2, bytes: &[u8]) -> Shown {
-    let answer = replies_v2::read_reply_v2(address, request, bytes);
+fn read_v2(profile: Profile, address: u16, request: RequestV2, bytes: &[u8]) -> Shown {
+    let answer = replies_v2::read_reply_v2(profile, address, request, bytes);
     let read = answer.read;
     let list = answer.sources;
     match read {
@@ -171,16 +172,16 @@ fn read_v2(address: u16, request: RequestV2, bytes: &[u8]) -> Shown {
     }
 }
 
-// A text gauge's reply, which came from this address and stands behind its request of n bytes.
-pub fn read(from: usize, bytes: &[u8], n: usize) -> Shown {
+// A text gauge's reply, which came from this address and stands behind its request of n bytes. Both are read as a profile's.
+pub fn read(profile: Profile, from: usize, bytes: &[u8], n: usize) -> Shown {
     let address = (from % 65536) as u16;
     let came = buffer::rest(bytes, n);
-    let decoded = request_reader::read_request(word::front(bytes, n));
+    let decoded = request_reader::read_request(profile, word::front(bytes, n));
     let r = decoded.request;
     match r {
         Request::Refused(k) => refused(k as u16),
         Request::V1(_, asks) => read_v1(address, asks, came),
-        Request::V2(_, asks) => read_v2(address, asks, came),
+        Request::V2(_, asks) => read_v2(profile, address, asks, came),
     }
 }
 

@@ -9,7 +9,7 @@ use Rattle.frames.specs.Frame.{dataFrom, frameOf}
 use Rattle.frames.specs.declared.Frame.{Frame}
 use Rattle.frames.specs.declared.Frame.the-variants as frame
 use Rattle.sources.specs.Source.{listOf, Counted}
-use Rattle.settings.specs.Limits.{isFactor}
+use Rattle.settings.specs.Limits.{ProfileLimits, isFactor}
 use Rattle.requests.specs.AskV2.{askV2, askList}
 use Rattle.requests.specs.AskV1.{askV1}
 use Rattle.requests.specs.declared.AskV2.{AskV2}
@@ -39,25 +39,25 @@ unfoldable pub fromV1 : ℕ → AskV1 → Request
 fromV1 address (v1.Asks r) = judgedV1 address r
 fromV1 address (v1.Refused k) = Refused k
 
--- what a frame asks, by the gauge's own decoding (askV2, askV1)
-unfoldable pub fromFrame : List ℕ → Frame → Request
-fromFrame s (frame.Silent k) = Refused k
-fromFrame s (frame.V1 h) = fromV1 (h .address) (askV1 (h .letter) (dataFrom 4 s))
-fromFrame s (frame.Length h) = Refused 6
-fromFrame s (frame.V2 h) = fromV2 (h .address) (askV2 h (dataFrom 8 s))
+-- what a frame asks of a gauge of these limits, by the gauge's own decoding (askV2, askV1)
+unfoldable pub fromFrame : ProfileLimits → List ℕ → Frame → Request
+fromFrame limits s (frame.Silent k) = Refused k
+fromFrame limits s (frame.V1 h) = fromV1 (h .address) (askV1 (h .letter) (dataFrom 4 s))
+fromFrame limits s (frame.Length h) = Refused 6
+fromFrame limits s (frame.V2 h) = fromV2 (h .address) (askV2 limits h (dataFrom 8 s))
 
-unfoldable pub requestOf : List ℕ → Request
-requestOf s = fromFrame s (frameOf s)
+unfoldable pub requestOf : ProfileLimits → List ℕ → Request
+requestOf limits s = fromFrame limits s (frameOf s)
 
 -- the sources that a write of SM lists; none beside any other request
-unfoldable pub listFrom : List ℕ → Frame → List ℕ
-listFrom s (frame.Silent k) = []
-listFrom s (frame.V1 h) = []
-listFrom s (frame.Length h) = []
-listFrom s (frame.V2 h) = askList h (dataFrom 8 s)
+unfoldable pub listFrom : ProfileLimits → List ℕ → Frame → List ℕ
+listFrom limits s (frame.Silent k) = []
+listFrom limits s (frame.V1 h) = []
+listFrom limits s (frame.Length h) = []
+listFrom limits s (frame.V2 h) = askList limits h (dataFrom 8 s)
 
-unfoldable pub requestList : List ℕ → List ℕ
-requestList s = listFrom s (frameOf s)
+unfoldable pub requestList : ProfileLimits → List ℕ → List ℕ
+requestList limits s = listFrom limits s (frameOf s)
 
 -- document 01's number for each answer: 0 where the bytes are a request
 unfoldable pub requestNumber : Request → ℕ
@@ -65,7 +65,7 @@ requestNumber (V1 address r) = 0
 requestNumber (V2 address r) = 0
 requestNumber (Refused k) = k
 
-pub record Decodes (s : List ℕ) (r : Decoded) : Type 0 where
-  pub request : r .request ≡ requestOf s
-  pub list : listOf (r .sources) ≡ requestList s
+pub record Decodes (limits : ProfileLimits) (s : List ℕ) (r : Decoded) : Type 0 where
+  pub request : r .request ≡ requestOf limits s
+  pub list : listOf (r .sources) ≡ requestList limits s
   pub count : Counted (r .sources)

@@ -2,6 +2,7 @@
 ghost use mathlib.Core.Path.{_≡_};
 ghost use mathlib.Core.List.{[]};
 ghost use Rattle.sources.specs.Source.{listOf, Counted};
+ghost use Rattle.settings.specs.Limits.{limitsOf};
 ghost use Rattle.request_reader.specs.Decoded.{fromV2, judgedV1, fromV1, Decodes};
 use requests::AskV1;
 use requests::AskV2;
@@ -62,9 +63,9 @@ fn plain(request: Request) -> Decoded
     }
 }
 
-// Any bytes as a typed request, or the first refusal that applies.
-pub fn read_request(s: &[u8]) -> Decoded
-    ensures { λ r. ⌜ Decodes (now (s .entry)) r ⌝ }
+// Any bytes as a typed request to a gauge of this profile, or the first refusal that applies.
+pub fn read_request(profile: sources::Profile, s: &[u8]) -> Decoded
+    ensures { λ r. ⌜ Decodes (limitsOf profile) (now (s .entry)) r ⌝ }
 {
     match frames::read_frame(s) {
         frames::Frame::Silent(k) => plain(Request::Refused(k)),
@@ -74,7 +75,7 @@ pub fn read_request(s: &[u8]) -> Decoded
             requests::read_v1(h.letter, frames::data_v1(s)),
         )),
         frames::Frame::V2(h) => {
-            let asked = requests::read_v2(h, frames::data_v2(s));
+            let asked = requests::read_v2(profile, h, frames::data_v2(s));
             let ask = asked.ask;
             let sources = asked.sources;
             Decoded {

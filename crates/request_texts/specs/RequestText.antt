@@ -5,6 +5,8 @@ use Rattle.buffer.specs.Byte.{at, digits3}
 use Rattle.buffer.specs.Quoted.{bytes}
 use Rattle.frames.specs.declared.HeadV1.{HeadV1}
 use Rattle.frames.specs.declared.HeadV2.{HeadV2}
+use Rattle.sources.specs.declared.Profile.the-variants.{Standard}
+use Rattle.settings.specs.Limits.{limitsOf}
 use Rattle.settings.specs.Settings.{keyOf, factory, putOf}
 use Rattle.settings.specs.Sent.{readText}
 use Rattle.settings.specs.Units.{unitCode}
@@ -32,11 +34,11 @@ commandIn (Set x) = Of (keyOf x)
 unfoldable pub headFor : ℕ → RequestV2 → HeadV2
 headFor address r = record { address = address; access = accessOf r; first = at (commandText (commandIn r)) 0; second = at (commandText (commandIn r)) 1 }
 
--- the data: a write sends what a read of the setting sends after it; the list counts for SM only
+-- the data: a write sends what a read of the setting sends after it, whatever else is held; the list counts for SM only
 unfoldable pub dataV2 : RequestV2 → List ℕ → List ℕ
 dataV2 (Read c) list = []
 dataV2 (Restore c) list = []
-dataV2 (Set x) list = readText (keyOf x) (putOf factory x list)
+dataV2 (Set x) list = readText (keyOf x) (putOf (factory (limitsOf Standard)) x list)
 
 -- ---- V1
 

@@ -46,14 +46,14 @@ pub fn head_for(address: u16, request: RequestV2) -> frames::HeadV2
     }
 }
 
-// The data of a request: a write sends what a read of the setting sends after it.
+// The data of a request: a write sends what a read of the setting sends after it, whatever else is held.
 pub fn data_v2(request: RequestV2, list: sources::Sources) -> buffer::Text
     ensures { λ r. ⌜ textOf r ≡ dataV2 request (listOf list) ⌝ }
 {
     match request {
         RequestV2::Read(_) => buffer::Text::EMPTY,
         RequestV2::Restore(_) => buffer::Text::EMPTY,
-        RequestV2::Set(x) => settings::Settings::at_factory()
+        RequestV2::Set(x) => settings::Settings::at_factory(sources::Profile::Standard)
             .with(x, list)
             .text(settings::key_of(x)),
     }

@@ -10,6 +10,7 @@ use script_words::row;
 use script_words::word;
 use settings::Setting;
 use settings::Transition;
+use sources::Profile;
 
 // Words as a request, or no request.
 enum TypedV2 {
@@ -126,19 +127,31 @@ fn row_v2(words: &[u8]) -> row::Row {
     )
 }
 
-fn send_v2(out: &mut [u8], address: u16, typed: TypedV2, q: sources::Sources) -> Shown {
+fn send_v2(
+    out: &mut [u8],
+    profile: Profile,
+    address: u16,
+    typed: TypedV2,
+    q: sources::Sources,
+) -> Shown {
     match typed {
-        TypedV2::Is(r) => print::answered(request_writer::write_request_v2(out, address, r, q)),
+        TypedV2::Is(r) => print::answered(request_writer::write_request_v2(
+            out,
+            profile,
+            address,
+            r,
+            q,
+        )),
         TypedV2::Isnt => print::unknown(),
     }
 }
 
-// Writes the V2 request of a line. The list stands beside any request.
-fn write_v2(line: &[u8], to: usize, out: &mut [u8]) -> Shown {
-    let words = word::after(line, 3);
+// Writes the V2 request of a line to a gauge of a profile. The list stands beside any request.
+fn write_v2(profile: Profile, line: &[u8], to: usize, out: &mut [u8]) -> Shown {
+    let words = word::after(call::without_profile(line, profile), 3);
     let r = row_v2(words);
     let n = r.numbers;
-    send_v2(out, half(to), typed_v2(words, r.place, n), list(n))
+    send_v2(out, profile, half(to), typed_v2(words, r.place, n), list(n))
 }
 
 // ---- V1
@@ -202,10 +215,10 @@ fn write_opg(line: &[u8], out: &mut [u8]) -> Shown {
     }
 }
 
-// Writes the request of a line, which is a call of this kind.
-pub fn write(kind: usize, to: usize, line: &[u8], out: &mut [u8]) -> Shown {
+// Writes the request of a line, which is a call of this kind, to a gauge of a profile.
+pub fn write(kind: usize, profile: Profile, to: usize, line: &[u8], out: &mut [u8]) -> Shown {
     match kind {
-        call::WRITE_V2 => write_v2(line, to, out),
+        call::WRITE_V2 => write_v2(profile, line, to, out),
         call::WRITE_V1 => write_v1(line, to, out),
         call::WRITE_OPG => write_opg(line, out),
         _ => print::unknown(),

@@ -11,6 +11,7 @@ use Rattle.frame_writer.specs.Written.{carriesV2, frameV1}
 use Rattle.frames_facts.proofs.Accepted.{sendable-exactly-v2}
 use Rattle.sources.specs.Source.{listOf}
 use Rattle.sources.specs.declared.Sources.{Sources}
+use Rattle.settings.specs.Limits.{ProfileLimits}
 use Rattle.requests.specs.declared.RequestV2.{RequestV2}
 use Rattle.requests.specs.declared.RequestV1.{RequestV1}
 use Rattle.request_texts.specs.RequestText.{headFor, dataV2, headForV1, dataV1}
@@ -24,17 +25,17 @@ carried-v2 address r list t a e n = rw e (sendable-exactly-v2 _ _ .0 (request-se
 
 -- what the writers answer, by their tests
 module _ (room address : ℕ) where
-  pub no-room-v2 : (r : RequestV2) (q : Sources) → room < 109 → requestWrittenV2 room address r q ≡ silent 1
+  pub no-room-v2 : (limits : ProfileLimits) (r : RequestV2) (q : Sources) → room < 109 → requestWrittenV2 limits room address r q ≡ silent 1
   unfolding requestWrittenV2
-  no-room-v2 r q h = sym (search rules)
+  no-room-v2 limits r q h = sym (search rules)
 
-  pub outside-v2 : (r : RequestV2) (q : Sources) → 109 ≤ room → within 1 999 address ≡ false → requestWrittenV2 room address r q ≡ silent 4
+  pub outside-v2 : (limits : ProfileLimits) (r : RequestV2) (q : Sources) → 109 ≤ room → within 1 999 address ≡ false → requestWrittenV2 limits room address r q ≡ silent 4
   unfolding requestWrittenV2
-  outside-v2 r q h o = rw o (sym (search rules))
+  outside-v2 limits r q h o = rw o (sym (search rules))
 
-  pub sent-is-v2 : (r : RequestV2) (q : Sources) → 109 ≤ room → within 1 999 address ≡ true → requestWrittenV2 room address r q ≡ sentV2 address (formedV2 r q) (listOf q)
+  pub sent-is-v2 : (limits : ProfileLimits) (r : RequestV2) (q : Sources) → 109 ≤ room → within 1 999 address ≡ true → requestWrittenV2 limits room address r q ≡ sentV2 address (formedV2 limits r q) (listOf q)
   unfolding requestWrittenV2
-  sent-is-v2 r q h o = rw o (sym (search rules))
+  sent-is-v2 limits r q h o = rw o (sym (search rules))
 
   pub no-room-v1 : (r : RequestV1) → room < 109 → requestWrittenV1 room address r ≡ silent 1
   unfolding requestWrittenV1

@@ -4,15 +4,15 @@ use mathlib.Core.List.{List, [], _∷_}
 use Prim.Native.Nat.{ℕ}
 use lib.Dec.{ltb, leb, eqb}
 use lib.ListN.{length}
-use Rattle.buffer.specs.First.{_⇒_, first}
+use Rattle.buffer.specs.First.{_⇒_, first, pick}
 use Rattle.buffer.specs.Byte.{within, every}
 use Rattle.decimal.specs.Exact.{normalOf}
 use Rattle.decimal.specs.declared.Number.{Number}
 use Rattle.decimal.specs.declared.Exact.{Exact}
 use Rattle.decimal.specs.declared.Hundredths.the-variants.{Whole}
-use Rattle.sources.specs.Source.{knownSources, among, standOnce, listOf}
+use Rattle.sources.specs.Source.{among, standOnce, listOf}
 use Rattle.sources.specs.declared.Sources.{Sources}
-use Rattle.settings.specs.Limits.{standard, isFactor}
+use Rattle.settings.specs.Limits.{ProfileLimits, standard, isFactor}
 use Rattle.settings.specs.declared.Transition.{Transition}
 use Rattle.settings.specs.declared.Transition.the-variants.{Direct, Between}
 use Rattle.settings.specs.declared.Setting.{Setting}
@@ -22,7 +22,7 @@ use Rattle.forms.specs.declared.Digit.{Digit}
 use Rattle.forms.specs.declared.Digit.the-variants.{Is}
 use Rattle.forms.specs.declared.Limited.{Limited}
 use Rattle.forms.specs.declared.Ends.{Ends}
-use Rattle.forms.specs.declared.Ends.the-variants.{One, Two}
+use Rattle.forms.specs.declared.Ends.the-variants.{None, One, Two}
 use Rattle.forms.specs.declared.Verdict.{Verdict}
 use Rattle.forms.specs.declared.Verdict.the-variants as verdict
 use Rattle.requests.specs.Command.{restoreCode, lacksAccess}
@@ -39,12 +39,13 @@ abbrev pub exactly : Number → Exact
 exactly n = record { negative = n .negative; digits = n .mantissa; up = n .place; down = 14 }
 
 -- a number of ST; "a number needing over six digits is 10"
-unfoldable pub limitedNumber : Number → Limited
-limitedNumber n = limitedOf (normalOf (exactly n))
+unfoldable pub limitedNumber : ProfileLimits → Number → Limited
+limitedNumber limits n = limitedOf limits (normalOf (exactly n))
 
-unfoldable pub endsIn : Transition → Ends
-endsIn (Direct n) = One (limitedNumber n)
-endsIn (Between low high) = Two (limitedNumber low) (limitedNumber high)
+-- VSH and VSM "accept only the `D` form of ST": the other one is none of theirs
+unfoldable pub endsIn : ProfileLimits → Transition → Ends
+endsIn limits (Direct n) = One (limitedNumber limits n)
+endsIn limits (Between low high) = pick (limits .betweenForm) (Two (limitedNumber limits low) (limitedNumber limits high)) None
 
 -- "One-digit settings: any other digit is RANGE, anything else SYNTAX"
 unfoldable pub typedDigit : ℕ → ℕ → Digit
@@ -59,33 +60,33 @@ judgedDigit x (Digit.Refused k) = verdict.Refused k
 unfoldable pub typedAddress : ℕ → Verdict
 typedAddress a = first (not (within (standard .addressLow) (standard .addressHigh) a) ⇒ verdict.Refused 11 ∷ []) (verdict.Set (Address a))
 
--- SM: "`0` with a list is SYNTAX"; a source that is not among the gauge's is RANGE; "a repeat or a listed `0` is 12 LOGIC, after RANGE, at the
+-- SM: "`0` with a list is SYNTAX"; a source that is not among the profile's is RANGE; "a repeat or a listed `0` is 12 LOGIC, after RANGE, at the
 -- writer .. too"
-unfoldable pub typedStream : Bool → List ℕ → Verdict
-typedStream on list =
+unfoldable pub typedStream : ProfileLimits → Bool → List ℕ → Verdict
+typedStream limits on list =
     first
     ((not on && not (eqb (length list) 0)) ⇒ verdict.Refused 10
-    ∷ not (every (among knownSources) list) ⇒ verdict.Refused 11
+    ∷ not (every (among (limits .sourceCodes)) list) ⇒ verdict.Refused 11
     ∷ not (standOnce list) ⇒ verdict.Refused 12
     ∷ [])
     (verdict.Set (Stream on))
 
 -- a typed write: the setting with its numbers canonical, or the first refusal that applies. The list counts for SM only
-unfoldable pub typedVerdict : Setting → Sources → Verdict
-typedVerdict (Address a) q = typedAddress a
-typedVerdict (PressureIn u) q = verdict.Set (PressureIn u)
-typedVerdict (Factor h) q = factorIn (Whole h)
-typedVerdict (Control d) q = judgedDigit (Control d) (typedDigit (standard .controlHigh) d)
-typedVerdict (Cathode d) q = judgedDigit (Cathode d) (typedDigit (standard .cathodeHigh) d)
-typedVerdict (Filament d) q = judgedDigit (Filament d) (typedDigit (standard .filamentHigh) d)
-typedVerdict (Switch t) q = transitionOf (endsIn t)
-typedVerdict (Stream on) q = typedStream on (listOf q)
+unfoldable pub typedVerdict : ProfileLimits → Setting → Sources → Verdict
+typedVerdict limits (Address a) q = typedAddress a
+typedVerdict limits (PressureIn u) q = verdict.Set (PressureIn u)
+typedVerdict limits (Factor h) q = factorIn (Whole h)
+typedVerdict limits (Control d) q = judgedDigit (Control d) (typedDigit (standard .controlHigh) d)
+typedVerdict limits (Cathode d) q = judgedDigit (Cathode d) (typedDigit (standard .cathodeHigh) d)
+typedVerdict limits (Filament d) q = judgedDigit (Filament d) (typedDigit (standard .filamentHigh) d)
+typedVerdict limits (Switch t) q = transitionOf (endsIn limits t)
+typedVerdict limits (Stream on) q = typedStream limits on (listOf q)
 
 -- a typed V2 request: 9 where the command lacks the access
-unfoldable pub formedV2 : RequestV2 → Sources → AskV2
-formedV2 (Read c) q = Asks (Read c)
-formedV2 (Restore c) q = first (lacksAccess restoreCode c ⇒ AskV2.Refused 9 ∷ []) (Asks (Restore c))
-formedV2 (Set x) q = setOf (typedVerdict x q)
+unfoldable pub formedV2 : ProfileLimits → RequestV2 → Sources → AskV2
+formedV2 limits (Read c) q = Asks (Read c)
+formedV2 limits (Restore c) q = first (lacksAccess restoreCode c ⇒ AskV2.Refused 9 ∷ []) (Asks (Restore c))
+formedV2 limits (Set x) q = setOf (typedVerdict limits x q)
 
 -- a typed V1 request: `c` writes six digits, "20 to 800"
 unfoldable pub formedV1 : RequestV1 → ℕ

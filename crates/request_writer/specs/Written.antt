@@ -9,6 +9,7 @@ use Rattle.buffer.specs.Answer.{Answer, silent}
 use Rattle.frame_writer.specs.Written.{frameV1, frameV2, isAddress}
 use Rattle.sources.specs.Source.{listOf}
 use Rattle.sources.specs.declared.Sources.{Sources}
+use Rattle.settings.specs.Limits.{ProfileLimits}
 use Rattle.requests.specs.declared.RequestV2.{RequestV2}
 use Rattle.requests.specs.declared.AskV2.{AskV2}
 use Rattle.requests.specs.declared.AskV2.the-variants.{Asks, Refused}
@@ -25,13 +26,13 @@ unfoldable pub sentV2 : ℕ → AskV2 → List ℕ → Answer
 sentV2 address (Asks r) list = record { number = 0; reply = frameV2 (headFor address r) (dataV2 r list) }
 sentV2 address (Refused k) list = silent k
 
-unfoldable pub requestWrittenV2 : ℕ → ℕ → RequestV2 → Sources → Answer
-requestWrittenV2 room address r q =
+unfoldable pub requestWrittenV2 : ProfileLimits → ℕ → ℕ → RequestV2 → Sources → Answer
+requestWrittenV2 limits room address r q =
     first
     (ltb room writerRoom ⇒ silent 1
     ∷ not (isAddress address) ⇒ silent 4
     ∷ [])
-    (sentV2 address (formedV2 r q) (listOf q))
+    (sentV2 address (formedV2 limits r q) (listOf q))
 
 unfoldable pub requestWrittenV1 : ℕ → ℕ → RequestV1 → Answer
 requestWrittenV1 room address r =

@@ -7,6 +7,7 @@ ghost use lib.ListN.{length};
 ghost use Rattle.frame_writer.specs.Written.{isAddress};
 ghost use Rattle.buffer.specs.Answer.{Sent};
 ghost use Rattle.sources.specs.Source.{listOf};
+ghost use Rattle.settings.specs.Limits.{limitsOf};
 ghost use Rattle.request_writer.specs.Typed.{limitedNumber, endsIn, typedDigit, typedAddress, typedStream, judgedDigit, typedVerdict, formedV2, formedV1};
 ghost use Rattle.request_writer.specs.Written.{sentV2, requestWrittenV2, requestWrittenV1};
 use forms::Digit;
@@ -24,24 +25,29 @@ pub const ROOM: usize = 109;
 // ---- values
 
 // A number of ST, judged by its value.
-fn limited_number(n: decimal::Number) -> forms::Limited
-    ensures { λ r. ⌜ r ≡ limitedNumber n ⌝ }
+fn limited_number(profile: sources::Profile, n: decimal::Number) -> forms::Limited
+    ensures { λ r. ⌜ r ≡ limitedNumber (limitsOf profile) n ⌝ }
 {
-    forms::in_limits(decimal::normal(decimal::Exact {
+    let exact = decimal::Exact {
         negative: n.negative,
         digits: n.mantissa,
         up: n.place,
         down: 14,
-    }))
+    };
+    forms::in_limits(profile, decimal::normal(exact))
 }
 
-fn ends_in(t: settings::Transition) -> Ends
-    ensures { λ r. ⌜ r ≡ endsIn t ⌝ }
+// The numbers of a typed transition. The form of two numbers is one of the profile's, or none.
+fn ends_in(profile: sources::Profile, t: settings::Transition) -> Ends
+    ensures { λ r. ⌜ r ≡ endsIn (limitsOf profile) t ⌝ }
 {
     match t {
-        settings::Transition::Direct(n) => Ends::One(limited_number(n)),
+        settings::Transition::Direct(n) => Ends::One(limited_number(profile, n)),
         settings::Transition::Between(low, high) => {
-            Ends::Two(limited_number(low), limited_number(high))
+            if !Settings::has_between(profile) {
+                return Ends::None;
+            }
+            Ends::Two(limited_number(profile, low), limited_number(profile, high))
         }
     }
 }
@@ -78,13 +84,13 @@ fn is_idle_list(on: bool, count: usize) -> bool
     count != 0
 }
 
-fn typed_stream(on: bool, q: sources::Sources) -> Verdict
-    ensures { λ r. ⌜ r ≡ typedStream on (listOf q) ⌝ }
+fn typed_stream(profile: sources::Profile, on: bool, q: sources::Sources) -> Verdict
+    ensures { λ r. ⌜ r ≡ typedStream (limitsOf profile) on (listOf q) ⌝ }
 {
     if is_idle_list(on, q.size()) {
         return Verdict::Refused(10);
     }
-    if !sources::all_known(q) {
+    if !sources::all_known(profile, q) {
         return Verdict::Refused(11);
     }
     if !sources::stand_once(q) {
@@ -102,9 +108,9 @@ fn digit_verdict(x: Setting, d: Digit) -> Verdict
     }
 }
 
-// A typed write: the setting with its numbers canonical, or the refusal's number.
-pub fn judge_setting(x: Setting, q: sources::Sources) -> Verdict
-    ensures { λ r. ⌜ r ≡ typedVerdict x q ⌝ }
+// A typed write to a gauge of this profile: the setting with its numbers canonical, or the refusal's number.
+pub fn judge_setting(profile: sources::Profile, x: Setting, q: sources::Sources) -> Verdict
+    ensures { λ r. ⌜ r ≡ typedVerdict (limitsOf profile) x q ⌝ }
 {
     match x {
         Setting::Address(a) => typed_address(a),
@@ -113,14 +119,14 @@ pub fn judge_setting(x: Setting, q: sources::Sources) -> Verdict
         Setting::Control(d) => digit_verdict(x, typed_digit(Settings::CONTROL_MAX, d)),
         Setting::Cathode(d) => digit_verdict(x, typed_digit(Settings::CATHODE_MAX, d)),
         Setting::Filament(d) => digit_verdict(x, typed_digit(Settings::FILAMENT_MAX, d)),
-        Setting::Switch(t) => forms::judge_ends(ends_in(t)),
-        Setting::Stream(on) => typed_stream(on, q),
+        Setting::Switch(t) => forms::judge_ends(ends_in(profile, t)),
+        Setting::Stream(on) => typed_stream(profile, on, q),
     }
 }
 
 // A typed V2 request with its numbers canonical, or the refusal's number.
-fn formed_v2(request: RequestV2, q: sources::Sources) -> AskV2
-    ensures { λ r. ⌜ r ≡ formedV2 request q ⌝ }
+fn formed_v2(profile: sources::Profile, request: RequestV2, q: sources::Sources) -> AskV2
+    ensures { λ r. ⌜ r ≡ formedV2 (limitsOf profile) request q ⌝ }
 {
     match request {
         RequestV2::Read(_) => AskV2::Asks(request),
@@ -130,7 +136,7 @@ fn formed_v2(request: RequestV2, q: sources::Sources) -> AskV2
             }
             AskV2::Asks(request)
         }
-        RequestV2::Set(x) => match judge_setting(x, q) {
+        RequestV2::Set(x) => match judge_setting(profile, x, q) {
             Verdict::Set(y) => AskV2::Asks(RequestV2::Set(y)),
             Verdict::Refused(k) => AskV2::Refused(k),
         },
@@ -178,15 +184,16 @@ fn send_v2(out: &mut [u8], address: u16, ask: AskV2, q: sources::Sources) -> buf
     }
 }
 
-// Writes a V2 request. Refuses with 1 where less than 109 bytes are lent, 4 where the address is outside 1 to 999, then with 9, 10, 11 or
+// Writes a V2 request to a gauge of this profile. Refuses with 1 where less than 109 bytes are lent, 4 where the address is outside 1 to 999, then with 9, 10, 11 or
 // 12; then out stays as it was.
 pub fn write_request_v2(
     out: &mut [u8],
+    profile: sources::Profile,
     address: u16,
     request: RequestV2,
     q: sources::Sources,
 ) -> buffer::Written
-    ensures { λ w. ⌜ Sent (now (out .entry)) (requestWrittenV2 (length (now (out .entry))) address request q) (now (out .exit)) w ⌝ }
+    ensures { λ w. ⌜ Sent (now (out .entry)) (requestWrittenV2 (limitsOf profile) (length (now (out .entry))) address request q) (now (out .exit)) w ⌝ }
 {
     if out.len() < ROOM {
         return refused(1);
@@ -194,7 +201,7 @@ pub fn write_request_v2(
     if !frame_writer::is_address(address) {
         return refused(4);
     }
-    send_v2(out, address, formed_v2(request, q), q)
+    send_v2(out, address, formed_v2(profile, request, q), q)
 }
 
 // Writes a V1 request. Refuses as write_request_v2 does.

@@ -8,6 +8,7 @@ use lib.ListN.{length}
 use Rattle.buffer.specs.First.{_⇒_, first}
 use Rattle.frames.specs.declared.HeadV2.{HeadV2}
 use Rattle.sources.specs.Source.{listOf, Counted}
+use Rattle.settings.specs.Limits.{ProfileLimits}
 use Rattle.forms.specs.Judged.{verdictOf, listIn}
 use Rattle.forms.specs.declared.Verdict.{Verdict}
 use Rattle.forms.specs.declared.Verdict.the-variants as verdict
@@ -26,53 +27,53 @@ unfoldable pub setOf : Verdict → AskV2
 setOf (verdict.Set x) = Asks (Set x)
 setOf (verdict.Refused k) = Refused k
 
--- a write; a command that has none is refused with 9 before its data are looked at
-unfoldable pub writeOf : Command → List ℕ → AskV2
-writeOf MV s = Refused 9
-writeOf T2 s = Refused 9
-writeOf FN s = Refused 9
-writeOf FS s = Refused 9
-writeOf (Of key) s = setOf (verdictOf key s)
+-- a write to a gauge of these limits; a command that has none is refused with 9 before its data are looked at
+unfoldable pub writeOf : ProfileLimits → Command → List ℕ → AskV2
+writeOf limits MV s = Refused 9
+writeOf limits T2 s = Refused 9
+writeOf limits FN s = Refused 9
+writeOf limits FS s = Refused 9
+writeOf limits (Of key) s = setOf (verdictOf limits key s)
 
 -- a known command, with this access code and these data; "data with a read or default" is SYNTAX
-unfoldable pub askKnown : ℕ → Command → List ℕ → AskV2
-askKnown access c s =
+unfoldable pub askKnown : ProfileLimits → ℕ → Command → List ℕ → AskV2
+askKnown limits access c s =
     first
     (lacksAccess access c ⇒ Refused 9
-    ∷ eqb access writeCode ⇒ writeOf c s
+    ∷ eqb access writeCode ⇒ writeOf limits c s
     ∷ not (eqb (length s) 0) ⇒ Refused 10
     ∷ eqb access restoreCode ⇒ Asks (Restore c)
     ∷ [])
     (Asks (Read c))
 
-unfoldable pub askNamed : ℕ → Named → List ℕ → AskV2
-askNamed access Unknown s = Refused 8
-askNamed access (Known c) s = askKnown access c s
+unfoldable pub askNamed : ProfileLimits → ℕ → Named → List ℕ → AskV2
+askNamed limits access Unknown s = Refused 8
+askNamed limits access (Known c) s = askKnown limits access c s
 
-unfoldable pub askV2 : HeadV2 → List ℕ → AskV2
-askV2 h s = first (not (isAccess (h .access)) ⇒ Refused 7 ∷ []) (askNamed (h .access) (commandOf (h .first) (h .second)) s)
+unfoldable pub askV2 : ProfileLimits → HeadV2 → List ℕ → AskV2
+askV2 limits h s = first (not (isAccess (h .access)) ⇒ Refused 7 ∷ []) (askNamed limits (h .access) (commandOf (h .first) (h .second)) s)
 
 -- the sources that a write of SM lists; none beside any other request
-unfoldable pub writeList : Command → List ℕ → List ℕ
-writeList MV s = []
-writeList T2 s = []
-writeList FN s = []
-writeList FS s = []
-writeList (Of key) s = listIn key s
+unfoldable pub writeList : ProfileLimits → Command → List ℕ → List ℕ
+writeList limits MV s = []
+writeList limits T2 s = []
+writeList limits FN s = []
+writeList limits FS s = []
+writeList limits (Of key) s = listIn limits key s
 
-unfoldable pub namedList : ℕ → Named → List ℕ → List ℕ
-namedList access Unknown s = []
-namedList access (Known c) s = first (lacksAccess access c ⇒ [] ∷ eqb access writeCode ⇒ writeList c s ∷ []) []
+unfoldable pub namedList : ProfileLimits → ℕ → Named → List ℕ → List ℕ
+namedList limits access Unknown s = []
+namedList limits access (Known c) s = first (lacksAccess access c ⇒ [] ∷ eqb access writeCode ⇒ writeList limits c s ∷ []) []
 
-unfoldable pub askList : HeadV2 → List ℕ → List ℕ
-askList h s = first (not (isAccess (h .access)) ⇒ [] ∷ []) (namedList (h .access) (commandOf (h .first) (h .second)) s)
+unfoldable pub askList : ProfileLimits → HeadV2 → List ℕ → List ℕ
+askList limits h s = first (not (isAccess (h .access)) ⇒ [] ∷ []) (namedList limits (h .access) (commandOf (h .first) (h .second)) s)
 
-pub record Writes (c : Command) (s : List ℕ) (r : AskedV2) : Type 0 where
-  pub ask : r .ask ≡ writeOf c s
-  pub list : listOf (r .sources) ≡ writeList c s
+pub record Writes (limits : ProfileLimits) (c : Command) (s : List ℕ) (r : AskedV2) : Type 0 where
+  pub ask : r .ask ≡ writeOf limits c s
+  pub list : listOf (r .sources) ≡ writeList limits c s
   pub count : Counted (r .sources)
 
-pub record AsksV2 (h : HeadV2) (s : List ℕ) (r : AskedV2) : Type 0 where
-  pub ask : r .ask ≡ askV2 h s
-  pub list : listOf (r .sources) ≡ askList h s
+pub record AsksV2 (limits : ProfileLimits) (h : HeadV2) (s : List ℕ) (r : AskedV2) : Type 0 where
+  pub ask : r .ask ≡ askV2 limits h s
+  pub list : listOf (r .sources) ≡ askList limits h s
   pub count : Counted (r .sources)

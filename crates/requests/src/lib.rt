@@ -3,6 +3,7 @@
 ghost use mathlib.Core.Path.{_≡_};
 ghost use mathlib.Core.List.{[]};
 ghost use Rattle.sources.specs.Source.{listOf, Counted};
+ghost use Rattle.settings.specs.Limits.{limitsOf};
 ghost use Rattle.requests.specs.Command.{commandOf, commandText, isAccess, canWrite, canRestore, lacksAccess};
 ghost use Rattle.requests.specs.AskV2.{setOf, AsksV2, Writes};
 ghost use Rattle.requests.specs.AskV1.{sixDigits, bareOf, oneOf, unitAt, askV1};
@@ -185,13 +186,13 @@ fn set_of(verdict: forms::Verdict) -> AskV2
 }
 
 // A write of a command.
-fn write_of(command: Command, bytes: &[u8]) -> AskedV2
-    ensures { λ r. ⌜ Writes command (now (bytes .entry)) r ⌝ }
+fn write_of(profile: sources::Profile, command: Command, bytes: &[u8]) -> AskedV2
+    ensures { λ r. ⌜ Writes (limitsOf profile) command (now (bytes .entry)) r ⌝ }
 {
     let Command::Of(key) = command else {
         return plain(AskV2::Refused(9));
     };
-    let judged = forms::judge(key, bytes);
+    let judged = forms::judge(profile, key, bytes);
     let verdict = judged.verdict;
     let sources = judged.sources;
     AskedV2 {
@@ -200,9 +201,9 @@ fn write_of(command: Command, bytes: &[u8]) -> AskedV2
     }
 }
 
-// What a V2 frame with this head and these data asks.
-pub fn read_v2(head: frames::HeadV2, bytes: &[u8]) -> AskedV2
-    ensures { λ r. ⌜ AsksV2 head (now (bytes .entry)) r ⌝ }
+// What a V2 frame with this head and these data asks of a gauge of this profile.
+pub fn read_v2(profile: sources::Profile, head: frames::HeadV2, bytes: &[u8]) -> AskedV2
+    ensures { λ r. ⌜ AsksV2 (limitsOf profile) head (now (bytes .entry)) r ⌝ }
 {
     let access = head.access;
     if !is_access(access) {
@@ -215,7 +216,7 @@ pub fn read_v2(head: frames::HeadV2, bytes: &[u8]) -> AskedV2
         return plain(AskV2::Refused(9));
     }
     if access == b'2' {
-        return write_of(command, bytes);
+        return write_of(profile, command, bytes);
     }
     if bytes.len() != 0 {
         return plain(AskV2::Refused(10));

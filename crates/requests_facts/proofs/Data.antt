@@ -1,6 +1,6 @@
 -- Document 01, the answer numbers of a write's data: 10 SYNTAX, 11 RANGE or 12 LOGIC.
 use mathlib.Core.Path.{_≡_, refl}
-use mathlib.Core.Bool.{not}
+use mathlib.Core.Bool.{not, _&&_}
 use mathlib.Core.List.{List}
 use mathlib.Core.Logic.{_⊎_, inl, inr}
 use Prim.Native.Nat.{ℕ, _+_, _-_}
@@ -16,7 +16,7 @@ use Rattle.decimal.specs.declared.Parsed.the-variants.{Value, Syntax, Range}
 use Rattle.decimal.specs.declared.Hundredths.{Hundredths}
 use Rattle.decimal.specs.declared.Hundredths.the-variants.{Whole, Other}
 use Rattle.sources.specs.Entries.{entriesNumber}
-use Rattle.settings.specs.Limits.{standard, isFactor}
+use Rattle.settings.specs.Limits.{ProfileLimits, standard, isFactor}
 use Rattle.settings.specs.Sent.{unitText}
 use Rattle.settings.specs.declared.PressureUnit.the-variants.{Mbar, Torr, HPa}
 use Rattle.settings.specs.declared.Transition.the-variants.{Between}
@@ -107,13 +107,13 @@ abbrev Passed : Limited → Type 0
 Passed (Fine n) = Unit {0}
 Passed (Limited.Refused k) = Low k
 
-limited-passed : (p : Parsed) → Passed (limitedOf p)
+limited-passed : (limits : ProfileLimits) (p : Parsed) → Passed (limitedOf limits p)
 unfolding limitedOf
-limited-passed Syntax = inl refl
-limited-passed Range = inr refl
-limited-passed (Value n) =
-    each Passed (belowOf n (standard .transitionLow)) (Limited.Refused 11) _ (λ _. inr refl)
-    (λ _. each Passed (belowOf (standard .transitionHigh) n) (Limited.Refused 11) (Fine n) (λ _. inr refl) (λ _. tt))
+limited-passed limits Syntax = inl refl
+limited-passed limits Range = inr refl
+limited-passed limits (Value n) =
+    each Passed (belowOf n (limits .transitionLow)) (Limited.Refused 11) _ (λ _. inr refl)
+    (λ _. each Passed (belowOf (limits .transitionHigh) n) (Limited.Refused 11) (Fine n) (λ _. inr refl) (λ _. tt))
 
 direct-told : (r : Limited) → Passed r → Told (directOf r)
 unfolding directOf
@@ -131,16 +131,16 @@ between-told (Limited.Refused j) (Limited.Refused k) (inl e) (inr f) = rw (e, f)
 between-told (Limited.Refused j) (Limited.Refused k) (inr e) (inl f) = rw (e, f) syntax
 between-told (Limited.Refused j) (Limited.Refused k) (inr e) (inr f) = rw (e, f) range
 
-transition-told : (s : List ℕ) → Told (transitionData s)
+transition-told : (limits : ProfileLimits) (s : List ℕ) → Told (transitionData limits s)
 unfolding transitionData endsOf transitionOf
-transition-told s =
+transition-told limits s =
     let t = drop 1 s in
     let k = untilOf 84 t in
     let P : Ends → Type 0 = λ (e : Ends). Told (transitionOf e) in
-    each P (startsWith 68 s) (One (limitedOf (numberOf t))) _ (λ _. direct-told _ (limited-passed (numberOf t)))
-    (λ _. each P (not (startsWith 70 s)) None _ (λ _. syntax)
+    each P (startsWith 68 s) (One (limitedOf limits (numberOf t))) _ (λ _. direct-told _ (limited-passed limits (numberOf t)))
+    (λ _. each P (not (startsWith 70 s && limits .betweenForm)) None _ (λ _. syntax)
     (λ _. each P (leb (length t) k) None _ (λ _. syntax)
-    (λ _. between-told _ _ (limited-passed (numberOf (take k t))) (limited-passed (numberOf (drop (k + 1) t))))))
+    (λ _. between-told _ _ (limited-passed limits (numberOf (take k t))) (limited-passed limits (numberOf (drop (k + 1) t))))))
 
 stream-told : (s : List ℕ) (n : ℕ) → Told (streamOf s n)
 unfolding streamOf
@@ -152,29 +152,29 @@ stream-told s n =
     (λ _. each Told (eqb n 11) (Verdict.Refused 11) _ (λ _. range)
     (λ _. each Told (eqb n 12) (Verdict.Refused 12) (Set (Stream (startsWith 52 s))) (λ _. logic) (λ _. tt))))))
 
-told : (key : Key) (s : List ℕ) → Told (verdictOf key s)
+told : (limits : ProfileLimits) (key : Key) (s : List ℕ) → Told (verdictOf limits key s)
 unfolding verdictOf streamData
-told DA s = address-told s
-told DU s = unit-told s
-told C1 s = factor-told (numberOf s)
-told CM s = digit-told Control _ (digit-read (standard .controlHigh) s)
-told CC s = digit-told Cathode _ (digit-read (standard .cathodeHigh) s)
-told FC s = digit-told Filament _ (digit-read (standard .filamentHigh) s)
-told ST s = transition-told s
-told SM s = stream-told s (entriesNumber (drop 1 s))
+told limits DA s = address-told s
+told limits DU s = unit-told s
+told limits C1 s = factor-told (numberOf s)
+told limits CM s = digit-told Control _ (digit-read (standard .controlHigh) s)
+told limits CC s = digit-told Cathode _ (digit-read (standard .cathodeHigh) s)
+told limits FC s = digit-told Filament _ (digit-read (standard .filamentHigh) s)
+told limits ST s = transition-told limits s
+told limits SM s = stream-told s (entriesNumber (limits .sourceCodes) (drop 1 s))
 
 -- a write's data are refused with SYNTAX, RANGE or LOGIC only
 pub refused-data : RefusedData
-refused-data key s k e = rw e at (told key s)
+refused-data limits key s k e = rw e at (told limits key s)
 
 -- "none with a write" is SYNTAX
 pub none-with-write : NoneWithWrite
 unfolding verdictOf addressData unitData unitText sameText factorOf numberOf scanOf parsedOf unsignedOf leading startsWith digitData digitOf endsOf transitionOf transitionData streamData streamOf pick
-none-with-write DA = refl
-none-with-write DU = refl
-none-with-write C1 = refl
-none-with-write CM = refl
-none-with-write CC = refl
-none-with-write FC = refl
-none-with-write ST = refl
-none-with-write SM = refl
+none-with-write limits DA = refl
+none-with-write limits DU = refl
+none-with-write limits C1 = refl
+none-with-write limits CM = refl
+none-with-write limits CC = refl
+none-with-write limits FC = refl
+none-with-write limits ST = refl
+none-with-write limits SM = refl

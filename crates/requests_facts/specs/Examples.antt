@@ -5,7 +5,8 @@ use Prim.Native.String.{String}
 use Prim.Native.Nat.{ℕ}
 use Rattle.buffer.specs.Byte.{at}
 use Rattle.buffer.specs.Quoted.{bytes}
-use Rattle.settings.specs.Limits.{positive}
+use Rattle.settings.specs.Limits.{positive, limitsOf}
+use Rattle.sources.specs.declared.Profile.the-variants.{Standard}
 use Rattle.settings.specs.declared.PressureUnit.the-variants.{Torr}
 use Rattle.settings.specs.declared.Transition.the-variants.{Between}
 use Rattle.settings.specs.declared.Key.the-variants.{DA, DU, C1, CM, CC, FC, ST, SM}
@@ -120,7 +121,7 @@ pub record Given : Type 0 where
 abbrev pub askedV2 : CaseV2 → Given
 askedV2 c =
     let h : HeadV2 = record { address = 1; access = at (c .head) 0; first = at (c .head) 1; second = at (c .head) 2 } in
-    record { ask = askV2 h (c .text); list = askList h (c .text) }
+    record { ask = askV2 (limitsOf Standard) h (c .text); list = askList (limitsOf Standard) h (c .text) }
 
 abbrev pub paperV2 : CaseV2 → Given
 paperV2 c = record { ask = c .ask; list = c .list }

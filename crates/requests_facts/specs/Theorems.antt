@@ -6,6 +6,7 @@ use Prim.Native.Nat.{ℕ}
 use Rattle.requests.specs.Command.{commandOf, commandText}
 use Rattle.requests.specs.declared.Command.{Command}
 use Rattle.requests.specs.declared.Named.the-variants.{Known}
+use Rattle.settings.specs.Limits.{ProfileLimits}
 use Rattle.settings.specs.declared.Key.{Key}
 use Rattle.forms.specs.Judged.{verdictOf}
 use Rattle.forms.specs.declared.Verdict.the-variants.{Refused}
@@ -21,11 +22,11 @@ AllNamed = map named table ≡ map known table
 
 -- a write's data are refused with SYNTAX, RANGE or LOGIC only
 abbrev pub RefusedData : Type 0
-RefusedData = (key : Key) (s : List ℕ) (k : ℕ) → verdictOf key s ≡ Refused k → (k ≡ 10) ⊎ (k ≡ 11) ⊎ (k ≡ 12)
+RefusedData = (limits : ProfileLimits) (key : Key) (s : List ℕ) (k : ℕ) → verdictOf limits key s ≡ Refused k → (k ≡ 10) ⊎ (k ≡ 11) ⊎ (k ≡ 12)
 
 -- "none with a write" is SYNTAX
 abbrev pub NoneWithWrite : Type 0
-NoneWithWrite = (key : Key) → verdictOf key [] ≡ Refused 10
+NoneWithWrite = (limits : ProfileLimits) (key : Key) → verdictOf limits key [] ≡ Refused 10
 
 -- the worked cases: each frame asks what the paper says, with the sources beside it
 abbrev pub AllV2 : Type 0

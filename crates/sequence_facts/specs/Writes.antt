@@ -15,6 +15,7 @@ use Rattle.decimal.specs.Form.{numberOf}
 use Rattle.decimal.specs.declared.Number.{Number}
 use Rattle.decimal.specs.declared.Parsed.{Parsed}
 use Rattle.decimal.specs.declared.Parsed.the-variants as parsed
+use Rattle.settings.specs.Limits.{ProfileLimits}
 use Rattle.settings.specs.Settings.{Held, factory}
 use Rattle.settings.specs.declared.PressureUnit.the-variants.{Mbar, Torr, HPa}
 use Rattle.settings.specs.declared.Transition.the-variants.{Direct, Between}
@@ -128,11 +129,11 @@ nameOf SM = bytes "SM"
 unfoldable pub asksFor : ℕ → Key → List ℕ → Bool
 asksFor access key s = eqb (at s 3) access && sameText (at s 4 ∷ at s 5 ∷ []) (nameOf key)
 
--- what the bytes of an accepted request write to a setting: access `2` writes what the data say, `4` restores the factory value
-unfoldable pub writes : Key → List ℕ → Option Value
-writes key s =
+-- what the bytes of an accepted request write to a setting: access `2` writes what the data say, `4` restores the profile's factory value
+unfoldable pub writes : ProfileLimits → Key → List ℕ → Option Value
+writes limits key s =
     first
     (asksFor 50 key s ⇒ writtenV2 key (dataFrom 8 s)
-    ∷ asksFor 52 key s ⇒ some (holding key factory)
+    ∷ asksFor 52 key s ⇒ some (holding key (factory limits))
     ∷ [])
     (writtenV1 key (at s 3) (dataFrom 4 s))

@@ -16,6 +16,8 @@ use Rattle.sources.specs.Source.{listOf}
 use Rattle.settings.specs.Settings.{Held, held, changedBy}
 use Rattle.settings.specs.declared.Settings.{Settings}
 use Rattle.readings.specs.declared.Readings.{Readings}
+use Rattle.sources.specs.declared.Profile.{Profile}
+use Rattle.settings.specs.Limits.{limitsOf}
 use Rattle.gauge_rules.specs.State.{State, stateOf}
 use Rattle.gauge_rules.specs.declared.Gauge.{Gauge}
 use Rattle.gauge_table.specs.After.{answerOf, nextOf}
@@ -155,10 +157,10 @@ module _ (g₀ : State) (input out₀ : List ℕ) (g : State) (at used : ℕ) (o
 
 -- ---- the state in parts
 
-abbrev pub gauge : Settings → Readings → Bool → State
-gauge s r u = record { settings = held s; readings = r; unlocked = u }
+abbrev pub gauge : Profile → Settings → Readings → Bool → State
+gauge p s r u = record { limits = limitsOf p; settings = held s; readings = r; unlocked = u }
 
 -- the settings with what was decided, beside the readings as they were
-pub stored : (g₀ : State) (input out₀ : List ℕ) (at used : ℕ) (out : List ℕ) (s s′ : Settings) (r : Readings) (u : Bool) (d : Decided) → held s′ ≡ changedBy (held s) (d .change .put) (listOf (d .change .sources))
-    → Sofar g₀ input out₀ (decidedState (gauge s r u) d) at used out → Sofar g₀ input out₀ (gauge s′ r (d .unlocked)) at used out
-stored g₀ input out₀ at used out s s′ r u d e = subst (λ (h : Held). Sofar g₀ input out₀ (record { settings = h; readings = r; unlocked = d .unlocked }) at used out) (sym e)
+pub stored : (g₀ : State) (input out₀ : List ℕ) (at used : ℕ) (out : List ℕ) (p : Profile) (s s′ : Settings) (r : Readings) (u : Bool) (d : Decided) → held s′ ≡ changedBy (held s) (d .change .put) (listOf (d .change .sources))
+    → Sofar g₀ input out₀ (decidedState (gauge p s r u) d) at used out → Sofar g₀ input out₀ (gauge p s′ r (d .unlocked)) at used out
+stored g₀ input out₀ at used out p s s′ r u d e = subst (λ (h : Held). Sofar g₀ input out₀ (record { limits = limitsOf p; settings = h; readings = r; unlocked = d .unlocked }) at used out) (sym e)

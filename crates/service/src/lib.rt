@@ -19,16 +19,18 @@ pub const KEPT_MAX: usize = 110;
 
 // What was served, where serving stops.
 fn stopped(
+    profile: sources::Profile,
     settings: settings::Settings,
     readings: readings::Readings,
     unlocked: bool,
     taken: usize,
     len: usize,
 ) -> Served
-    ensures { λ r. ⌜ r ≡ record { gauge = record { settings = settings; readings = readings; unlocked = unlocked }; taken = taken; len = len } ⌝ }
+    ensures { λ r. ⌜ r ≡ record { gauge = record { profile = profile; settings = settings; readings = readings; unlocked = unlocked }; taken = taken; len = len } ⌝ }
 {
     Served {
         gauge: gauge_rules::Gauge {
+            profile,
             settings,
             readings,
             unlocked,
@@ -45,6 +47,7 @@ pub fn serve(g: gauge_rules::Gauge, input: &[u8], out: &mut [u8]) -> Served
     ensures { λ r. ⌜ (r .taken ≤ length (now (input .entry))) × (r .len ≤ length (now (out .entry))) ⌝ }
     ensures { λ r. ⌜ (Counted (g .settings .sources) → Counted (r .gauge .settings .sources)) ⌝ }
 {
+    let profile = g.profile;
     let mut settings = g.settings;
     let readings = g.readings;
     let mut unlocked = g.unlocked;
@@ -53,10 +56,11 @@ pub fn serve(g: gauge_rules::Gauge, input: &[u8], out: &mut [u8]) -> Served
     while text_gauge::ROOM <= out.len() - used {
         let n = buffer::until(&input[at..], 13);
         if input.len() - at <= n {
-            return stopped(settings, readings, unlocked, at, used);
+            return stopped(profile, settings, readings, unlocked, at, used);
         }
         let end = at + n + 1;
         let h = gauge_rules::Gauge {
+            profile,
             settings,
             readings,
             unlocked,
@@ -77,7 +81,7 @@ pub fn serve(g: gauge_rules::Gauge, input: &[u8], out: &mut [u8]) -> Served
         at = end;
         used += w.len;
     }
-    stopped(settings, readings, unlocked, at, used)
+    stopped(profile, settings, readings, unlocked, at, used)
 }
 
 fn least(a: usize, b: usize) -> usize

@@ -11,6 +11,8 @@ use lib.Seq.{take-at}
 use Rattle.buffer.specs.First.{pick}
 use Rattle.buffer.specs.Answer.{over, Sent}
 use Rattle.line.specs.Line.{lineAnswer}
+use Rattle.sources.specs.declared.Profile.{Profile}
+use Rattle.settings.specs.Limits.{ProfileLimits, limitsOf}
 use Rattle.gauge_rules.specs.State.{State, stateOf}
 use Rattle.gauge_rules.specs.declared.Gauge.{Gauge}
 use Rattle.gauge_table.specs.Table.{answerRoom}
@@ -20,6 +22,7 @@ use Rattle.text_gauge.specs.Answer.{Answers}
 use Rattle.text_gauge.specs.declared.Answered.{Answered}
 use Rattle.gauge_facts.specs.Sound.{SoundState}
 use Rattle.gauge_facts.proofs.Kept.{next-sound}
+use Rattle.gauge_facts.proofs.Profile.{profile-stays}
 use Rattle.service.specs.Split.{framesOf, unfinishedOf}
 use Rattle.service.specs.Served.{Service, nothing, then, serviceOf, Serves}
 use Rattle.service.specs.declared.Served.{Served}
@@ -27,23 +30,23 @@ use Rattle.service_facts.proofs.Cut.{nothing-lost}
 use Rattle.service_facts.proofs.Called.{over-front}
 use Rattle.history.specs.Latest.{Each}
 use Rattle.sequence_facts.specs.Sequence.{Exchange, asked, History, Trace, begin, ask, setBench, show}
-use Rattle.sequence_facts.proofs.Claimed.{claimed}
+use Rattle.sequence_facts.proofs.Claimed.{claimed-of}
 use Rattle.sequence_facts.specs.Witness.{gaugeOf}
 use Rattle.sequence_facts.proofs.Witness.{holds-back}
 use Rattle.service_sequence_facts.specs.Calls.{requestsOf, repliesOf, Lent, Serving}
 use Rattle.service_sequence_facts.specs.Theorems.{OneCall}
 
 -- of a gauge only what it holds counts
-pub same-state : {h : History} {g g′ : Gauge} → Trace h g → stateOf g′ ≡ stateOf g → Trace h g′
+pub same-state : {limits : ProfileLimits} {h : History} {g g′ : Gauge} → Trace limits h g → stateOf g′ ≡ stateOf g → Trace limits h g′
 same-state (begin e) k = begin (k ∙ e)
 same-state {g′ = g′} (ask {r = r} t a) k = ask {r = record { gauge = g′; written = r .written }} t (record { sent = a .sent; state = k ∙ a .state })
 same-state {g′ = g′} (setBench {r = r} t a) k = setBench {r = record { gauge = g′; number = r .number }} t (record { number = a .number; state = k ∙ a .state })
 same-state (show {before = before} {after = after} {w = w} t a) k =
-    show (same-state t k) (subst (λ (m : State). Sent before (lineAnswer (length before) (m .settings) (m .readings)) after w) (sym k) a)
+    show (same-state t k) (subst (λ (m : State). Sent before (lineAnswer (m .limits) (length before) (m .settings) (m .readings)) after w) (sym k) a)
 
--- every gauge that holds m has had the calls h
-abbrev Reaches : History → State → Type 0
-Reaches h m = (g : Gauge) → stateOf g ≡ m → Trace h g
+-- every gauge that holds m has had the calls h, from the start of this profile
+abbrev Reaches : Profile → History → State → Type 0
+Reaches p h m = (g : Gauge) → stateOf g ≡ m → Trace (limitsOf p) h g
 
 -- a request answered by the rules in this memory
 abbrev exchange : State → List ℕ → List ℕ → Exchange
@@ -51,12 +54,12 @@ exchange m s memory =
     let a = answerOf m (length memory) s in
     asked s memory (a .number) (length (a .reply)) (over (a .reply) memory)
 
-one-request : {h : History} {m : State} → Reaches h m → SoundState m → (s memory : List ℕ) → Reaches (exchange m s memory ∷ h) (nextOf m (length memory) s)
-one-request {m = m} t k s memory g e =
+one-request : (p : Profile) {h : History} {m : State} → Reaches p h m → SoundState m → m .limits ≡ limitsOf p → (s memory : List ℕ) → Reaches p (exchange m s memory ∷ h) (nextOf m (length memory) s)
+one-request p {m = m} t k l s memory g e =
     let a = answerOf m (length memory) s in
     let r : Answered = record { gauge = g; written = record { number = a .number; len = length (a .reply) } } in
-    ask {r = r} (t (gaugeOf m) (holds-back m k))
-    (subst (λ (x : State). Answers x s memory (over (a .reply) memory) r) (sym (holds-back m k)) (record { sent = record { number = refl; len = refl; memory = refl }; state = e }))
+    ask {r = r} (t (gaugeOf p m) (holds-back p m k l))
+    (subst (λ (x : State). Answers x s memory (over (a .reply) memory) r) (sym (holds-back p m k l)) (record { sent = record { number = refl; len = refl; memory = refl }; state = e }))
 
 -- its reply is the front of the memory
 reply-front : (reply memory : List ℕ) → take (length reply) (over reply memory) ≡ reply
@@ -76,7 +79,7 @@ then-then m n a b s = rw (add-assoc m n (s .taken), append-assoc a b (s .replies
 same-then : {m n : ℕ} {a b : List ℕ} {s t : Service} → m ≡ n → a ≡ b → s ≡ t → then m a s ≡ then n b t
 same-then p q r = rw (p, q, r)
 
-module _ (h : History) (g₀ : State) (before : List ℕ) (fs : List (List ℕ)) where
+module _ (p : Profile) (h : History) (g₀ : State) (before : List ℕ) (fs : List (List ℕ)) where
   -- what the replies so far leave of the memory
   abbrev rest : History → List ℕ
   rest made = drop (length (repliesOf made)) before
@@ -84,8 +87,9 @@ module _ (h : History) (g₀ : State) (before : List ℕ) (fs : List (List ℕ))
   -- the requests so far, and the frames that are left
   record Sofar (m : State) (made : History) (left : List (List ℕ)) : Type 0 where
     lent : Each (Lent before) made
-    trace : Reaches (made ++ h) m
+    trace : Reaches p (made ++ h) m
     sound : SoundState m
+    limits : m .limits ≡ limitsOf p
     order : fs ≡ requestsOf made ++ left
     all : serviceOf g₀ (length before) fs ≡ then (length (flatten (requestsOf made))) (repliesOf made) (serviceOf m (length (rest made)) left)
 
@@ -95,7 +99,7 @@ module _ (h : History) (g₀ : State) (before : List ℕ) (fs : List (List ℕ))
     left : List (List ℕ)
     state : State
     lent : Each (Lent before) made
-    trace : Reaches (made ++ h) state
+    trace : Reaches p (made ++ h) state
     order : fs ≡ requestsOf made ++ left
     all : serviceOf g₀ (length before) fs ≡ record { state = state; taken = length (flatten (requestsOf made)); replies = repliesOf made }
     stops : answerRoom ≤ length (rest made) → left ≡ []
@@ -118,8 +122,9 @@ module _ (h : History) (g₀ : State) (before : List ℕ) (fs : List (List ℕ))
       let first : serviceOf m room (f ∷ left) ≡ then (length f) reply (serviceOf (nextOf m room f) (room - length reply) left) = rw (le-ltb room answerRoom k) in
       record {
         lent = ((refl, k), s .lent);
-        trace = one-request (s .trace) (s .sound) f (rest made);
+        trace = one-request p (s .trace) (s .sound) (s .limits) f (rest made);
         sound = next-sound m room f (s .sound);
+        limits = profile-stays .0 m room f ∙ s .limits;
         order = s .order ∙ sym (append-assoc (requestsOf made) (f ∷ []) left);
         all =
             s .all
@@ -136,16 +141,17 @@ module _ (h : History) (g₀ : State) (before : List ℕ) (fs : List (List ℕ))
       (λ e. finish s (rw e) (λ k. absurd (omega (arith, ltb-true (length (rest made)) answerRoom e))))
       (λ e. loop left (next s (ltb-false (length (rest made)) answerRoom e)))
 
-  first-call : {g : Gauge} → Trace h g → stateOf g ≡ g₀ → Done
+  first-call : {g : Gauge} → Trace (limitsOf p) h g → stateOf g ≡ g₀ → Done
   unfolding requestsOf repliesOf flatten
   first-call t e =
+      let c = claimed-of p _ _ t .0 in
       loop fs {made = []}
-      (record { lent = tt; trace = λ g k. same-state t (k ∙ sym e); sound = subst SoundState e (claimed _ _ t .sound); order = refl; all = rw (zero-add (serviceOf g₀ (length before) fs .taken)) })
+      (record { lent = tt; trace = λ g k. same-state t (k ∙ sym e); sound = subst SoundState e (c .sound); limits = subst (λ (m : State). m .limits ≡ limitsOf p) e (c .limits-stay); order = refl; all = rw (zero-add (serviceOf g₀ (length before) fs .taken)) })
 
 -- one call, and the requests that it is
-pub serving : {h : History} {g : Gauge} {input before after : List ℕ} {r : Served} → Trace h g → Serves (stateOf g) input before after r → Serving h input before after r
-serving {h} {g} {input} {before} {after} {r} t s =
-    let d = first-call h (stateOf g) before (framesOf input) t refl in
+pub serving : {p : Profile} {h : History} {g : Gauge} {input before after : List ℕ} {r : Served} → Trace (limitsOf p) h g → Serves (stateOf g) input before after r → Serving p h input before after r
+serving {p} {h} {g} {input} {before} {after} {r} t s =
+    let d = first-call p h (stateOf g) before (framesOf input) t refl in
     let taken : r .taken ≡ length (flatten (requestsOf (d .made))) = s .taken ∙ ap (λ (x : Service). x .taken) (d .all) in
     let len : r .len ≡ length (repliesOf (d .made)) = s .len ∙ ap (λ (x : Service). length (x .replies)) (d .all) in
     let all : input ≡ flatten (requestsOf (d .made)) ++ (flatten (d .left) ++ unfinishedOf input)
@@ -164,4 +170,4 @@ serving {h} {g} {input} {before} {after} {r} t s =
 
 -- THE THEOREM of one call
 pub one-call : OneCall
-one-call h g input before after r t s = serving t s
+one-call p h g input before after r t s = serving t s

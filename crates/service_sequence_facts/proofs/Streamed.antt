@@ -7,6 +7,8 @@ use borrow.Author.Tests.{leb-true, leb-false}
 use lib.Dec.{leb}
 use lib.ListN.{length, take, drop, length-append}
 use lib.Seq.{drop-drop, drop-append-seam, take-append-le, take-all}
+use Rattle.sources.specs.declared.Profile.{Profile}
+use Rattle.settings.specs.Limits.{limitsOf}
 use Rattle.gauge_rules.specs.State.{State, stateOf}
 use Rattle.gauge_rules.specs.declared.Gauge.{Gauge}
 use Rattle.gauge_table.proofs.DecidedV2.{by}
@@ -20,8 +22,8 @@ use Rattle.service_facts.proofs.Room.{Front, front, join, behind, none-taken}
 use Rattle.service_facts.specs.Calls.{All}
 use Rattle.service_facts.proofs.Called.{over-front}
 use Rattle.history.specs.Latest.{Each}
-use Rattle.sequence_facts.specs.Sequence.{asked, benchSet, lined, History, Trace, Claim}
-use Rattle.sequence_facts.proofs.Claimed.{claimed}
+use Rattle.sequence_facts.specs.Sequence.{asked, benchSet, lined, History, Trace, Claim, OfProfile}
+use Rattle.sequence_facts.proofs.Claimed.{claimed-of}
 use Rattle.service_sequence_facts.specs.Calls.{requestsOf, repliesOf, Lent}
 use Rattle.service_sequence_facts.specs.Run.{AnswersAll, last, call, Run, start, piece, streamOf, Same, none, whole, cut, Request, Streamed, AsWhole}
 use Rattle.service_sequence_facts.specs.Theorems.{PiecesAsWhole, StreamedInPieces, FromStart, AllShort}
@@ -59,14 +61,14 @@ only-append (e ∷ a) b p q = (p .0, only-append a b (p .1) q)
 -- ---- all calls for bytes that were read
 
 -- requests that are all the frames of these bytes
-record Answering (h : History) (input : List ℕ) (g : Gauge) (written : List ℕ) : Type 0 where
+record Answering (p : Profile) (h : History) (input : List ℕ) (g : Gauge) (written : List ℕ) : Type 0 where
   made : History
   only-requests : OnlyRequests made
-  trace : Trace (made ++ h) g
+  trace : Trace (limitsOf p) (made ++ h) g
   requests : requestsOf made ≡ framesOf input
   replies : repliesOf made ≡ written
 
-answering : {h : History} {g g′ : Gauge} {input written : List ℕ} {taken : ℕ} → Trace h g → AnswersAll g input g′ taken written → Answering h input g′ written
+answering : {p : Profile} {h : History} {g g′ : Gauge} {input written : List ℕ} {taken : ℕ} → Trace (limitsOf p) h g → AnswersAll g input g′ taken written → Answering p h input g′ written
 answering {input = input} t (last {before = before} m s e) =
     let c = serving t s in
     let no-frames = none-taken _ (length before) input m (sym (s .taken) ∙ e) in
@@ -77,7 +79,7 @@ answering {input = input} t (last {before = before} m s e) =
       requests = append-eq-nil-iff .0 (sym (c .order) ∙ no-frames) .0 ∙ sym no-frames;
       replies = sym (c .replies);
     }
-answering {h} {input = input} t (call {before = before} m s rest) =
+answering {h = h} {input = input} t (call {before = before} m s rest) =
     let c = serving t s in
     let w = answering (c .trace) rest in
     let behind-is = ap (λ (n : ℕ). split (drop n input)) (c .taken) ∙ behind (requestsOf (c .made)) (c .left) input (c .order) in
@@ -115,7 +117,7 @@ all-answered (call {g} {g′} {input} {before} {after} {written} {r} {taken} m s
 -- ---- pieces
 
 -- a piece more is one delivery more (`deliver`)
-progress : {h : History} {g₀ g : Gauge} {parts : List (List ℕ)} {kept written : List ℕ} → Run h g₀ parts g kept written
+progress : {p : Profile} {h : History} {g₀ g : Gauge} {parts : List (List ℕ)} {kept written : List ℕ} → Run p h g₀ parts g kept written
     → _≡_ {A = Progress} (record { state = stateOf g; kept = kept; replies = written }) (served (stateOf g₀) (streamOf parts))
 unfolding streamOf split stateAfter repliesTo keptOf
 progress (start t) = refl
@@ -129,13 +131,13 @@ progress {g₀ = g₀} (piece {parts} {g} {g′} {kept} {written} {bytes} {memor
     ∙ one-delivery (stateOf g₀) (streamOf parts) bytes
 
 -- in any pieces the stream is served as the whole at once
-at-once : {h : History} {g₀ g : Gauge} {parts : List (List ℕ)} {kept written : List ℕ} → Run h g₀ parts g kept written → AsWhole (stateOf g₀) parts g kept written
+at-once : {p : Profile} {h : History} {g₀ g : Gauge} {parts : List (List ℕ)} {kept written : List ℕ} → Run p h g₀ parts g kept written → AsWhole (stateOf g₀) parts g kept written
 at-once run =
     let p = progress run in
     record { state = ap (λ (x : Progress). x .state) p; kept-is = ap (λ (x : Progress). x .kept) p; written-is = ap (λ (x : Progress). x .replies) p }
 
 pub as-whole : PiecesAsWhole
-as-whole h g₀ g parts kept written run = at-once run
+as-whole p h g₀ g parts kept written run = at-once run
 
 -- ---- requests as they are in the stream
 
@@ -167,20 +169,21 @@ kept-same x b o =
     (λ e. rw (take-all mostKept x (omega (arith, leb-false 110 (length x) e))) (same-all (framesOf (x ++ b))))
 
 -- a stream in any pieces is a sequence of requests, and has the claim
-pub streaming : {h : History} {g₀ g : Gauge} {parts : List (List ℕ)} {kept written : List ℕ} → Run h g₀ parts g kept written → Streamed h parts g written
+pub streaming : {p : Profile} {h : History} {g₀ g : Gauge} {parts : List (List ℕ)} {kept written : List ℕ} → Run p h g₀ parts g kept written → Streamed p h parts g written
 unfolding streamOf split requestsOf repliesOf
-streaming (start t) = record { made = []; only-requests = tt; trace = t; claim = claimed _ _ t; requests = none; replies = refl }
-streaming {h} (piece {parts} {g′ = g′} {bytes = bytes} {memory = memory} {end = end} run e a k) =
+streaming {p} (start t) = record { made = []; only-requests = tt; trace = t; claim = claimed-of p _ _ t .0; of-profile = claimed-of p _ _ t .1; requests = none; replies = refl }
+streaming {p} {h} (piece {parts} {g′ = g′} {bytes = bytes} {memory = memory} {end = end} run e a k) =
     let s = streaming run in
     let w = answering (s .trace) a in
-    let t : Trace ((w .made ++ s .made) ++ h) g′ = rw (append-assoc (w .made) (s .made) h) (w .trace) in
+    let t : Trace (limitsOf p) ((w .made ++ s .made) ++ h) g′ = rw (append-assoc (w .made) (s .made) h) (w .trace) in
     let u = unfinishedOf (streamOf parts) in
     let input : take end memory ≡ take mostKept u ++ bytes = e ∙ ap (λ (l : List ℕ). l ++ bytes) (at-once run .kept-is) in
     record {
       made = w .made ++ s .made;
       only-requests = only-append (w .made) (s .made) (w .only-requests) (s .only-requests);
       trace = t;
-      claim = claimed _ _ t;
+      claim = claimed-of p _ _ t .0;
+      of-profile = claimed-of p _ _ t .1;
       requests =
           same-by (requests-append (w .made) (s .made) ∙ ap (λ (l : List (List ℕ)). requestsOf (s .made) ++ l) (w .requests ∙ ap framesOf input))
           (ap (λ (x : Split). x .frames) (cut-at (streamOf parts) bytes)) (same-append (s .requests) (kept-same u bytes (end-open (streamOf parts))));
@@ -188,13 +191,13 @@ streaming {h} (piece {parts} {g′ = g′} {bytes = bytes} {memory = memory} {en
     }
 
 pub streamed : StreamedInPieces
-streamed h g₀ g parts kept written run = streaming run
+streamed p h g₀ g parts kept written run = streaming run
 
 -- from a gauge at its start
 pub from-start : FromStart
-from-start g₀ g parts kept written run =
+from-start p g₀ g parts kept written run =
     let s = streaming run in
-    (s .made, subst (λ (h : History). Claim h g) (append-nil (s .made)) (s .claim), s .requests, s .replies)
+    (s .made, subst (λ (h : History). Claim (limitsOf p) h g) (append-nil (s .made)) (s .claim), s .of-profile, s .requests, s .replies)
 
 -- where no frame of the stream has over 109 bytes, the requests are its frames to the byte
 short : {a b : List (List ℕ)} → Same a b → Each (λ rest f. length f ≤ 109) b → a ≡ b

@@ -9,6 +9,8 @@ use lib.ListN.{length, take, drop, length-append}
 use lib.Seq.{take-all}
 use Rattle.buffer.specs.First.{pick}
 use Rattle.buffer.specs.Answer.{over}
+use Rattle.sources.specs.declared.Profile.{Profile}
+use Rattle.settings.specs.Limits.{limitsOf}
 use Rattle.gauge_rules.specs.State.{State, stateOf}
 use Rattle.gauge_rules.specs.declared.Gauge.{Gauge}
 use Rattle.gauge_table.specs.Table.{answerRoom}
@@ -16,6 +18,7 @@ use Rattle.gauge_table.proofs.DecidedV2.{by}
 use Rattle.gauge_table.specs.After.{answerOf, nextOf}
 use Rattle.gauge_facts.specs.Sound.{SoundState}
 use Rattle.gauge_facts.proofs.Kept.{next-sound}
+use Rattle.gauge_facts.proofs.Profile.{profile-stays}
 use Rattle.service.specs.Split.{Split, framesOf}
 use Rattle.service.specs.Served.{Service, serviceOf, Serves, keptOf}
 use Rattle.service.specs.declared.Served.{Served}
@@ -35,18 +38,28 @@ service-sound m room (f ∷ fs) k =
     by (ltb room answerRoom) (λ e. rw e k)
     (λ e. rw e (service-sound (nextOf m room f) (room - length (answerOf m room f .reply)) fs (next-sound m room f k)))
 
+-- and the profile
+service-limits : (m : State) (room : ℕ) (fs : List (List ℕ)) → serviceOf m room fs .state .limits ≡ m .limits
+unfolding serviceOf pick
+service-limits m room [] = refl
+service-limits m room (f ∷ fs) =
+    by (ltb room answerRoom) (λ e. rw e refl)
+    (λ e. rw e (service-limits (nextOf m room f) (room - length (answerOf m room f .reply)) fs ∙ profile-stays .0 m room f))
+
 -- a gauge that has what the contract of `serve` says
 abbrev serviceIn : Gauge → List ℕ → List ℕ → Service
 serviceIn g input before = serviceOf (stateOf g) (length before) (framesOf input)
 
-abbrev result : Service → Served
-result v = record { gauge = gaugeOf (v .state); taken = v .taken; len = length (v .replies) }
+abbrev result : Profile → Service → Served
+result p v = record { gauge = gaugeOf p (v .state); taken = v .taken; len = length (v .replies) }
 
 module _ (g : Gauge) (input before : List ℕ) (k : SoundState (stateOf g)) where
-  state-back : stateOf (gaugeOf (serviceIn g input before .state)) ≡ serviceIn g input before .state
-  state-back = holds-back (serviceIn g input before .state) (service-sound (stateOf g) (length before) (framesOf input) k)
+  state-back : stateOf (gaugeOf (g .profile) (serviceIn g input before .state)) ≡ serviceIn g input before .state
+  state-back =
+      holds-back (g .profile) (serviceIn g input before .state) (service-sound (stateOf g) (length before) (framesOf input) k)
+      (service-limits (stateOf g) (length before) (framesOf input))
 
-  serves : Serves (stateOf g) input before (over (serviceIn g input before .replies) before) (result (serviceIn g input before))
+  serves : Serves (stateOf g) input before (over (serviceIn g input before .replies) before) (result (g .profile) (serviceIn g input before))
   serves = record { state = state-back; taken = refl; len = refl; memory = refl }
 
 -- calls that answer all of these bytes
@@ -76,19 +89,19 @@ first-call : (g : Gauge) (input before : List ℕ) → SoundState (stateOf g) �
     → ((g′ : Gauge) (rest : List ℕ) → SoundState (stateOf g′) → length (framesOf rest) < length (framesOf input) → Finished g′ rest) → Finished g input
 first-call g input before k room again =
     let v = serviceIn g input before in
-    let sound : SoundState (stateOf (gaugeOf (v .state))) = subst SoundState (sym (state-back g input before k)) (service-sound (stateOf g) (length before) (framesOf input) k) in
+    let sound : SoundState (stateOf (gaugeOf (g .profile) (v .state))) = subst SoundState (sym (state-back g input before k)) (service-sound (stateOf g) (length before) (framesOf input) k) in
     by (leb 1 (v .taken))
     (λ e.
-    let rest = again (gaugeOf (v .state)) (drop (v .taken) input) sound (left-fewer (stateOf g) (length before) input (leb-true 1 (v .taken) e)) in
+    let rest = again (gaugeOf (g .profile) (v .state)) (drop (v .taken) input) sound (left-fewer (stateOf g) (length before) input (leb-true 1 (v .taken) e)) in
     record { gauge = rest .gauge; taken = _; written = _; calls = call room (serves g input before k) (rest .calls) })
-    (λ e. record { gauge = gaugeOf (v .state); taken = _; written = _; calls = last room (serves g input before k) (omega (arith, leb-false 1 (v .taken) e)) })
+    (λ e. record { gauge = gaugeOf (g .profile) (v .state); taken = _; written = _; calls = last room (serves g input before k) (omega (arith, leb-false 1 (v .taken) e)) })
 
 all-calls : (n : ℕ) (g : Gauge) (input before : List ℕ) → SoundState (stateOf g) → answerRoom ≤ length before → length (framesOf input) ≤ n → Finished g input
 all-calls zero g input before k room h = first-call g input before k room (λ g′ rest l f. absurd (omega arith))
 all-calls (suc n) g input before k room h = first-call g input before k room (λ g′ rest l f. all-calls n g′ rest before l room (omega arith))
 
 -- a gauge with any history, any pieces, and any memory from 64 bytes on that is lent with each call
-has-run : {h : History} {g₀ : Gauge} → Trace h g₀ → (before : List ℕ) → answerRoom ≤ length before → (parts : List (List ℕ)) → HasRun h g₀ parts
+has-run : {p : Profile} {h : History} {g₀ : Gauge} → Trace (limitsOf p) h g₀ → (before : List ℕ) → answerRoom ≤ length before → (parts : List (List ℕ)) → HasRun p h g₀ parts
 has-run {g₀ = g₀} t before room [] = record { gauge = g₀; kept = []; written = []; run = start t }
 has-run t before room (bytes ∷ parts) =
     let r = has-run t before room parts in
@@ -103,4 +116,4 @@ has-run t before room (bytes ∷ parts) =
     }
 
 pub every-run : EveryRun
-every-run h g₀ t before room parts = has-run t before room parts
+every-run p h g₀ t before room parts = has-run t before room parts

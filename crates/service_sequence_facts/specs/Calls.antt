@@ -3,6 +3,8 @@ use mathlib.Core.Path.{_≡_}
 use mathlib.Core.List.{List, [], _∷_, _++_, flatten}
 use Prim.Native.Nat.{ℕ, _-_, _≤_}
 use lib.ListN.{length, take, drop}
+use Rattle.sources.specs.declared.Profile.{Profile}
+use Rattle.settings.specs.Limits.{limitsOf}
 use Rattle.gauge_table.specs.Table.{answerRoom}
 use Rattle.service.specs.Split.{framesOf}
 use Rattle.service.specs.declared.Served.{Served}
@@ -28,13 +30,13 @@ Lent memory earlier (asked s before number len after) = (before ≡ drop (length
 Lent memory earlier (benchSet b number) = ⊥
 Lent memory earlier (lined before number len after) = ⊥
 
--- A gauge that had the calls h was given these bytes and the memory `before`, and `serve` came back with r and left the memory `after`: that is a
+-- A gauge of a profile, which had the calls h, was given these bytes and the memory `before`, and `serve` came back with r and left the memory `after`: that is a
 -- number of requests, one after another. The gauge that came back is one that had these calls and no other since.
-pub record Serving (h : History) (input before after : List ℕ) (r : Served) : Type 0 where
+pub record Serving (p : Profile) (h : History) (input before after : List ℕ) (r : Served) : Type 0 where
   -- the calls that were made, the latest first: requests, each lent what was left of the memory
   pub made : History
   pub lent : Each (Lent before) made
-  pub trace : Trace (made ++ h) (r .gauge)
+  pub trace : Trace (limitsOf p) (made ++ h) (r .gauge)
   -- they are the frames of the input in order, from the first on, and their bytes are those that were taken
   pub left : List (List ℕ)
   pub order : framesOf input ≡ requestsOf made ++ left

@@ -3,6 +3,8 @@ use mathlib.Core.Path.{_≡_}
 use mathlib.Core.List.{List, [], _∷_, _++_}
 use Prim.Native.Nat.{ℕ, _+_, _≤_}
 use lib.ListN.{length, take, drop}
+use Rattle.sources.specs.declared.Profile.{Profile}
+use Rattle.settings.specs.Limits.{limitsOf}
 use Rattle.gauge_rules.specs.State.{State, stateOf}
 use Rattle.gauge_rules.specs.declared.Gauge.{Gauge}
 use Rattle.gauge_table.specs.Table.{answerRoom}
@@ -11,7 +13,7 @@ use Rattle.service.specs.Served.{Serves, mostKept, Keeps}
 use Rattle.service.specs.declared.Served.{Served}
 use Rattle.service_facts.specs.Stream.{served}
 use Rattle.history.specs.Latest.{Each}
-use Rattle.sequence_facts.specs.Sequence.{Exchange, asked, benchSet, lined, History, Trace, Claim}
+use Rattle.sequence_facts.specs.Sequence.{Exchange, asked, benchSet, lined, History, Trace, Claim, OfProfile}
 use Rattle.service_sequence_facts.specs.Calls.{requestsOf, repliesOf}
 
 -- ---- a run
@@ -24,21 +26,21 @@ pub data AnswersAll : Gauge → List ℕ → Gauge → ℕ → List ℕ → Type
   call : {g g′ : Gauge} {input before after written : List ℕ} {r : Served} {taken : ℕ} → answerRoom ≤ length before → Serves (stateOf g) input before after r
       → AnswersAll (r .gauge) (drop (r .taken) input) g′ taken written → AnswersAll g input g′ (r .taken + taken) (take (r .len) after ++ written)
 
--- A run from a gauge g₀ that had the calls h (none where it comes from `Gauge::at_start`, or the bench settings of the program's arguments): the
+-- A run from a gauge g₀ of a profile, which had the calls h (none where it comes from `Gauge::at_start`, or the bench settings of the program's arguments): the
 -- pieces in which bytes came, the latest first, the gauge after them, the bytes that are kept, and all that was written. A piece comes in memory
 -- behind the bytes that are kept, both are answered, and `keep` moves what was not taken to the front.
-pub data Run (h : History) (g₀ : Gauge) : List (List ℕ) → Gauge → List ℕ → List ℕ → Type 0 where
-  start : Trace h g₀ → Run h g₀ [] g₀ [] []
-  piece : {parts : List (List ℕ)} {g g′ : Gauge} {kept written bytes memory memory′ new : List ℕ} {end taken n : ℕ} → Run h g₀ parts g kept written
+pub data Run (p : Profile) (h : History) (g₀ : Gauge) : List (List ℕ) → Gauge → List ℕ → List ℕ → Type 0 where
+  start : Trace (limitsOf p) h g₀ → Run p h g₀ [] g₀ [] []
+  piece : {parts : List (List ℕ)} {g g′ : Gauge} {kept written bytes memory memory′ new : List ℕ} {end taken n : ℕ} → Run p h g₀ parts g kept written
       → take end memory ≡ kept ++ bytes → AnswersAll g (take end memory) g′ taken new → Keeps memory taken end memory′ n
-      → Run h g₀ (bytes ∷ parts) g′ (take n memory′) (written ++ new)
+      → Run p h g₀ (bytes ∷ parts) g′ (take n memory′) (written ++ new)
 
 -- there is a run on these pieces
-pub record HasRun (h : History) (g₀ : Gauge) (parts : List (List ℕ)) : Type 0 where
+pub record HasRun (p : Profile) (h : History) (g₀ : Gauge) (parts : List (List ℕ)) : Type 0 where
   pub gauge : Gauge
   pub kept : List ℕ
   pub written : List ℕ
-  pub run : Run h g₀ parts gauge kept written
+  pub run : Run p h g₀ parts gauge kept written
 
 -- ---- the claim
 
@@ -62,11 +64,12 @@ Request (lined before number len after) = ⊥
 
 -- The stream in any pieces is a sequence of calls: there is a history of requests, and no other calls, after which the gauge stands, so it has the
 -- claim. The requests are the frames of the whole stream in order, and their replies one after another are all that was written.
-pub record Streamed (h : History) (parts : List (List ℕ)) (g : Gauge) (written : List ℕ) : Type 0 where
+pub record Streamed (p : Profile) (h : History) (parts : List (List ℕ)) (g : Gauge) (written : List ℕ) : Type 0 where
   pub made : History
   pub only-requests : Each (λ earlier e. Request e) made
-  pub trace : Trace (made ++ h) g
-  pub claim : Claim (made ++ h) g
+  pub trace : Trace (limitsOf p) (made ++ h) g
+  pub claim : Claim (limitsOf p) (made ++ h) g
+  pub of-profile : OfProfile p g
   pub requests : Same (requestsOf made) (framesOf (streamOf parts))
   pub replies : repliesOf made ≡ written
 

@@ -10,8 +10,11 @@ use Rattle.buffer.proofs.Laws.{within-true, within-in}
 use Rattle.decimal.specs.declared.Number.{Number}
 use Rattle.decimal_text.specs.Written.{writtenOf}
 use Rattle.decimal_text.proofs.Laws.{written-le}
-use Rattle.sources.specs.Source.{total}
-use Rattle.settings.specs.Limits.{standard, isFactor, widthOf, longestLine}
+use Rattle.sources.specs.Source.{among, capacity, sourcesOf, total}
+use Rattle.sources.specs.declared.Profile.{Profile}
+use Rattle.sources.specs.declared.Profile.the-variants.{Standard, Vsh, Vsm}
+use Rattle.sources.proofs.Profiles.{few, zero-in}
+use Rattle.settings.specs.Limits.{standard, limitsOf, isFactor, widthOf, longestLine}
 use Rattle.settings.specs.Units.{unitNamed}
 use Rattle.settings.specs.Sent.{transitionText}
 use Rattle.settings.specs.declared.PressureUnit.{PressureUnit}
@@ -36,8 +39,28 @@ transition-le (Direct n) = simp length-append (omega (arith, eleven n))
 transition-le (Between a b) = simp length-append (omega (arith, eleven a, eleven b))
 
 pub longest-is : LongestIs
-unfolding longestLine total widthOf pick
-longest-is = refl
+unfolding limitsOf longestLine total widthOf pick
+longest-is = (refl, refl, refl)
+
+-- the sources of a profile's limits are the profile's
+pub codes-are : (p : Profile) → limitsOf p .sourceCodes ≡ sourcesOf p
+unfolding limitsOf
+codes-are Standard = refl
+codes-are Vsh = refl
+codes-are Vsm = refl
+
+-- the sources of a profile: `0` is one of them, and each has a place in a list
+pub zero-here : (p : Profile) → among (limitsOf p .sourceCodes) 0 ≡ true
+unfolding limitsOf
+zero-here Standard = zero-in Standard
+zero-here Vsh = zero-in Vsh
+zero-here Vsm = zero-in Vsm
+
+pub few-here : (p : Profile) → length (limitsOf p .sourceCodes) ≤ capacity
+unfolding limitsOf
+few-here Standard = few Standard
+few-here Vsh = few Vsh
+few-here Vsm = few Vsm
 
 -- ---- the factor
 

@@ -1,4 +1,4 @@
--- The limits of settings, of what the bench sets and of the stream line, each named once.
+-- The limits of settings, those of each profile, of what the bench sets and of the stream line, each named once.
 use mathlib.Core.Bool.{Bool, true, false}
 use mathlib.Core.List.{List, [], _∷_}
 use Prim.Native.Nat.{ℕ, _+_}
@@ -6,10 +6,13 @@ use lib.Dec.{eqb, leb}
 use Rattle.buffer.specs.First.{_⇒_, first}
 use Rattle.buffer.specs.Byte.{within}
 use Rattle.decimal.specs.declared.Number.{Number}
-use Rattle.sources.specs.Source.{knownSources, total}
+use Rattle.sources.specs.Source.{sourcesOf, total}
+use Rattle.sources.specs.declared.Profile.{Profile}
+use Rattle.sources.specs.declared.Profile.the-variants.{Standard, Vsh, Vsm}
 use Rattle.settings.specs.declared.Transition.{Transition}
 use Rattle.settings.specs.declared.Transition.the-variants.{Direct}
 
+-- the limits that no profile changes
 pub record Limits : Type 0 where
   pub addressLow : ℕ
   pub addressHigh : ℕ
@@ -20,6 +23,9 @@ pub record Limits : Type 0 where
   pub controlHigh : ℕ
   pub cathodeHigh : ℕ
   pub filamentHigh : ℕ
+
+-- the limits and the sources of a profile
+pub record ProfileLimits : Type 0 where
   -- the numbers of ST
   pub transitionLow : Number
   pub transitionHigh : Number
@@ -33,7 +39,7 @@ pub record Limits : Type 0 where
 abbrev pub positive : ℕ → ℕ → Number
 positive m p = record { negative = false; mantissa = m; place = p }
 
--- the column "Data", "each 1 to 20", and document 02: "the factory value of ST becomes D 1"
+-- the column "Data"
 abbrev pub standard : Limits
 standard =
     record {
@@ -44,11 +50,36 @@ standard =
       controlHigh = 1;
       cathodeHigh = 1;
       filamentHigh = 3;
+    }
+
+-- document 02, "Hot cathode gauges", on top of the column "Data"
+unfoldable pub limitsOf : Profile → ProfileLimits
+-- "each 1 to 20"; "the factory value of ST becomes D 1"
+limitsOf Standard =
+    record {
       transitionLow = positive 100000 9;
       transitionHigh = positive 200000 10;
       betweenForm = true;
       factoryTransition = Direct (positive 100000 9);
-      sourceCodes = knownSources;
+      sourceCodes = sourcesOf Standard;
+    }
+-- "from 4E-4 to 1E-2 mbar (VSH)", "only the `D` form of ST, with factory value D 1e-3"
+limitsOf Vsh =
+    record {
+      transitionLow = positive 400000 5;
+      transitionHigh = positive 100000 7;
+      betweenForm = false;
+      factoryTransition = Direct (positive 100000 6);
+      sourceCodes = sourcesOf Vsh;
+    }
+-- "from 4E-4 to 2E-3 mbar (VSM)"
+limitsOf Vsm =
+    record {
+      transitionLow = positive 400000 5;
+      transitionHigh = positive 200000 6;
+      betweenForm = false;
+      factoryTransition = Direct (positive 100000 6);
+      sourceCodes = sourcesOf Vsm;
     }
 
 -- the limits of readings

@@ -3,7 +3,7 @@ use mathlib.Core.Bool.{Bool, false}
 use mathlib.Core.List.{List, []}
 use Prim.Native.Nat.{ℕ}
 use Rattle.sources.specs.Source.{listOf}
-use Rattle.settings.specs.Limits.{standard}
+use Rattle.settings.specs.Limits.{ProfileLimits}
 use Rattle.settings.specs.declared.PressureUnit.{PressureUnit}
 use Rattle.settings.specs.declared.PressureUnit.the-variants.{Mbar}
 use Rattle.settings.specs.declared.Transition.{Transition}
@@ -30,9 +30,9 @@ pub record Held : Type 0 where
 abbrev pub held : Settings → Held
 held s = record { address = s .address; unit = s .unit; factor = s .factor; control = s .control; cathode = s .cathode; filament = s .filament; transition = s .transition; streaming = s .streaming; list = listOf (s .sources) }
 
--- the column "Factory"
-abbrev pub factory : Held
-factory = record { address = 1; unit = Mbar; factor = 100; control = 1; cathode = 1; filament = 0; transition = standard .factoryTransition; streaming = false; list = [] }
+-- the column "Factory", with the profile's transition
+abbrev pub factory : ProfileLimits → Held
+factory limits = record { address = 1; unit = Mbar; factor = 100; control = 1; cathode = 1; filament = 0; transition = limits .factoryTransition; streaming = false; list = [] }
 
 -- the command of a setting
 abbrev pub keyOf : Setting → Key
@@ -46,15 +46,15 @@ keyOf (Switch t) = ST
 keyOf (Stream on) = SM
 
 -- the factory value of one setting
-unfoldable pub factoryOf : Key → Setting
-factoryOf DA = Address (factory .address)
-factoryOf DU = PressureIn (factory .unit)
-factoryOf C1 = Factor (factory .factor)
-factoryOf CM = Control (factory .control)
-factoryOf CC = Cathode (factory .cathode)
-factoryOf FC = Filament (factory .filament)
-factoryOf ST = Switch (factory .transition)
-factoryOf SM = Stream (factory .streaming)
+unfoldable pub factoryOf : ProfileLimits → Key → Setting
+factoryOf limits DA = Address (factory limits .address)
+factoryOf limits DU = PressureIn (factory limits .unit)
+factoryOf limits C1 = Factor (factory limits .factor)
+factoryOf limits CM = Control (factory limits .control)
+factoryOf limits CC = Cathode (factory limits .cathode)
+factoryOf limits FC = Filament (factory limits .filament)
+factoryOf limits ST = Switch (factory limits .transition)
+factoryOf limits SM = Stream (factory limits .streaming)
 
 -- the settings with this unit and this transition
 abbrev pub bothOf : Held → PressureUnit → Transition → Held
@@ -72,8 +72,8 @@ putOf s (Switch v) list = bothOf s (s .unit) v
 putOf s (Stream v) list = record { address = s .address; unit = s .unit; factor = s .factor; control = s .control; cathode = s .cathode; filament = s .filament; transition = s .transition; streaming = v; list = list }
 
 -- the settings with one of them at its factory value
-unfoldable pub restoreOf : Held → Key → Held
-restoreOf s key = putOf s (factoryOf key) []
+unfoldable pub restoreOf : ProfileLimits → Held → Key → Held
+restoreOf limits s key = putOf s (factoryOf limits key) []
 
 -- the settings after a change: as they were, or with one of them set
 unfoldable pub changedBy : Held → Put → List ℕ → Held

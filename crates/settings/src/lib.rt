@@ -5,7 +5,7 @@ ghost use mathlib.Core.List.{[], _∷_};
 ghost use Rattle.buffer.specs.Text.{textOf};
 ghost use Rattle.buffer.specs.Byte.{digit, digits3};
 ghost use Rattle.sources.specs.Source.{listOf, Counted};
-ghost use Rattle.settings.specs.Limits.{isFactor};
+ghost use Rattle.settings.specs.Limits.{isFactor, limitsOf};
 ghost use Rattle.settings.specs.Settings.{held, factory, keyOf, factoryOf, bothOf, putOf, restoreOf, changedBy};
 ghost use Rattle.settings.specs.declared.NamedUnit.{NamedUnit};
 ghost use Rattle.settings.specs.Units.{unitCode, unitNamed};
@@ -112,7 +112,7 @@ impl Settings {
 
     pub const FILAMENT_MAX: u8 = 3;
 
-    // The numbers of ST lie from 1 to 20.
+    // The numbers of ST lie from 1 to 20, on VSH from 4e-4 to 1e-2, on VSM from 4e-4 to 2e-3.
     pub const TRANSITION_MIN: decimal::Number = decimal::Number {
         negative: false,
         mantissa: 100000,
@@ -125,6 +125,32 @@ impl Settings {
         place: 10,
     };
 
+    pub const HOT_TRANSITION_MIN: decimal::Number = decimal::Number {
+        negative: false,
+        mantissa: 400000,
+        place: 5,
+    };
+
+    pub const VSH_TRANSITION_MAX: decimal::Number = decimal::Number {
+        negative: false,
+        mantissa: 100000,
+        place: 7,
+    };
+
+    pub const VSM_TRANSITION_MAX: decimal::Number = decimal::Number {
+        negative: false,
+        mantissa: 200000,
+        place: 6,
+    };
+
+    // The factory transition of a hot cathode gauge.
+    pub const HOT_TRANSITION: Transition = Transition::Direct(decimal::Number {
+        negative: false,
+        mantissa: 100000,
+        place: 6,
+    });
+
+    // The factory values of the gauge of document 01.
     pub const FACTORY: Settings = Settings {
         address: 1,
         unit: PressureUnit::Mbar,
@@ -151,21 +177,68 @@ impl Settings {
         Settings::FACTOR_MIN as u32 <= n && n <= Settings::FACTOR_MAX as u32
     }
 
-    // The settings as they leave the works.
-    pub fn at_factory() -> Settings
-        ensures { λ r. ⌜ held r ≡ factory ⌝ }
-        ensures { λ r. ⌜ Counted (r .sources) ⌝ }
+    // The lower limit of ST's numbers.
+    pub fn transition_min(profile: sources::Profile) -> decimal::Number
+        ensures { λ r. ⌜ r ≡ limitsOf profile .transitionLow ⌝ }
     {
-        Settings::FACTORY
+        match profile {
+            sources::Profile::Standard => Settings::TRANSITION_MIN,
+            sources::Profile::Vsh => Settings::HOT_TRANSITION_MIN,
+            sources::Profile::Vsm => Settings::HOT_TRANSITION_MIN,
+        }
     }
 
-    // The factory value of one setting.
-    pub fn factory_value(key: Key) -> Setting
-        ensures { λ r. ⌜ r ≡ factoryOf key ⌝ }
+    // The upper limit of ST's numbers.
+    pub fn transition_max(profile: sources::Profile) -> decimal::Number
+        ensures { λ r. ⌜ r ≡ limitsOf profile .transitionHigh ⌝ }
+    {
+        match profile {
+            sources::Profile::Standard => Settings::TRANSITION_MAX,
+            sources::Profile::Vsh => Settings::VSH_TRANSITION_MAX,
+            sources::Profile::Vsm => Settings::VSM_TRANSITION_MAX,
+        }
+    }
+
+    // Whether ST has the form of two numbers.
+    pub fn has_between(profile: sources::Profile) -> bool
+        ensures { λ r. ⌜ r ≡ limitsOf profile .betweenForm ⌝ }
+    {
+        match profile {
+            sources::Profile::Standard => true,
+            sources::Profile::Vsh => false,
+            sources::Profile::Vsm => false,
+        }
+    }
+
+    // The factory transition.
+    pub fn factory_transition(profile: sources::Profile) -> Transition
+        ensures { λ r. ⌜ r ≡ limitsOf profile .factoryTransition ⌝ }
+    {
+        let f = Settings::FACTORY;
+        let transition = f.transition;
+        match profile {
+            sources::Profile::Standard => transition,
+            sources::Profile::Vsh => Settings::HOT_TRANSITION,
+            sources::Profile::Vsm => Settings::HOT_TRANSITION,
+        }
+    }
+
+    // The settings as they leave the works.
+    pub fn at_factory(profile: sources::Profile) -> Settings
+        ensures { λ r. ⌜ held r ≡ factory (limitsOf profile) ⌝ }
+        ensures { λ r. ⌜ Counted (r .sources) ⌝ }
     {
         let f = Settings::FACTORY;
         let unit = f.unit;
-        let transition = f.transition;
+        f.with_both(unit, Settings::factory_transition(profile))
+    }
+
+    // The factory value of one setting.
+    pub fn factory_value(profile: sources::Profile, key: Key) -> Setting
+        ensures { λ r. ⌜ r ≡ factoryOf (limitsOf profile) key ⌝ }
+    {
+        let f = Settings::FACTORY;
+        let unit = f.unit;
         match key {
             Key::DA => Setting::Address(f.address),
             Key::DU => Setting::PressureIn(unit),
@@ -173,7 +246,7 @@ impl Settings {
             Key::CM => Setting::Control(f.control),
             Key::CC => Setting::Cathode(f.cathode),
             Key::FC => Setting::Filament(f.filament),
-            Key::ST => Setting::Switch(transition),
+            Key::ST => Setting::Switch(Settings::factory_transition(profile)),
             Key::SM => Setting::Stream(f.streaming),
         }
     }
@@ -237,11 +310,14 @@ impl Settings {
     }
 
     // The settings with one of them at its factory value.
-    pub fn restored(self, key: Key) -> Settings
-        ensures { λ r. ⌜ held r ≡ restoreOf (held self) key ⌝ }
+    pub fn restored(self, profile: sources::Profile, key: Key) -> Settings
+        ensures { λ r. ⌜ held r ≡ restoreOf (limitsOf profile) (held self) key ⌝ }
         ensures { λ r. ⌜ (Counted (self .sources) → Counted (r .sources)) ⌝ }
     {
-        self.with(Settings::factory_value(key), sources::Sources::NONE)
+        self.with(
+            Settings::factory_value(profile, key),
+            sources::Sources::NONE,
+        )
     }
 
     // The settings after a change.

@@ -74,7 +74,7 @@ ones [] = refl
 ones (c ∷ list) = omega (arith, ones list)
 
 pub most-is : MostIs
-most-is = refl
+most-is = (refl, refl, refl)
 
 -- sources that stand once are at most as many as there are
 pub at-most-all : (codes list : List ℕ) → every (among codes) list ≡ true → allDiffer list ≡ true → length list ≤ length codes

@@ -7,7 +7,7 @@ use lib.Dec.{eqb}
 use lib.ListN.{length}
 use Rattle.buffer.specs.First.{_⇒_, first}
 use Rattle.buffer.specs.Byte.{at, every}
-use Rattle.sources.specs.Source.{sourceOf, knownSources, standOnce, listOf, Counted}
+use Rattle.sources.specs.Source.{sourceOf, standOnce, listOf, Counted}
 use Rattle.sources.specs.declared.Listed.{Listed}
 use Rattle.sources.specs.declared.Source.{Source}
 use Rattle.sources.specs.declared.Source.the-variants.{Known, Unknown, Malformed}
@@ -27,9 +27,9 @@ unfoldable pub sourceTexts : List ℕ → List (List ℕ)
 sourceTexts [] = []
 sourceTexts (x ∷ s) = parts s
 
--- the entries' sources
-unfoldable pub entriesOf : List ℕ → List Source
-entriesOf s = map (sourceOf knownSources) (sourceTexts s)
+-- the entries' sources, where these are the gauge's
+unfoldable pub entriesOf : List ℕ → List ℕ → List Source
+entriesOf codes s = map (sourceOf codes) (sourceTexts s)
 
 abbrev pub isFormed : Source → Bool
 isFormed (Known c) = true
@@ -52,9 +52,9 @@ opens s = eqb (length s) 0 || eqb (at s 0) 68
 
 -- how a text of entries is judged: 10 SYNTAX where it is not of the form; 11 RANGE for a source that is unknown here; "a repeat or a listed `0`
 -- is 12 LOGIC, after RANGE"
-unfoldable pub entriesNumber : List ℕ → ℕ
-entriesNumber s =
-    let es = entriesOf s in
+unfoldable pub entriesNumber : List ℕ → List ℕ → ℕ
+entriesNumber codes s =
+    let es = entriesOf codes s in
     first
     (not (opens s) ⇒ 10
     ∷ not (every isFormed es) ⇒ 10
@@ -64,11 +64,11 @@ entriesNumber s =
     0
 
 -- the codes of a text of entries; none where it is refused
-unfoldable pub entriesList : List ℕ → List ℕ
-entriesList s = cond (eqb (entriesNumber s) 0) (map codeOf (entriesOf s)) []
+unfoldable pub entriesList : List ℕ → List ℕ → List ℕ
+entriesList codes s = cond (eqb (entriesNumber codes s) 0) (map codeOf (entriesOf codes s)) []
 
 -- what a reader of a text of entries answers
-pub record Lists (s : List ℕ) (r : Listed) : Type 0 where
-  pub number : r .number ≡ entriesNumber s
-  pub list : listOf (r .sources) ≡ entriesList s
+pub record Lists (codes s : List ℕ) (r : Listed) : Type 0 where
+  pub number : r .number ≡ entriesNumber codes s
+  pub list : listOf (r .sources) ≡ entriesList codes s
   pub count : Counted (r .sources)

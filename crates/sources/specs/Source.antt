@@ -11,10 +11,22 @@ use Rattle.buffer.specs.Quoted.{bytes}
 use Rattle.sources.specs.declared.Source.{Source}
 use Rattle.sources.specs.declared.Source.the-variants.{Known, Unknown, Malformed}
 use Rattle.sources.specs.declared.Sources.{Sources}
+use Rattle.sources.specs.declared.Profile.{Profile}
+use Rattle.sources.specs.declared.Profile.the-variants.{Standard, Vsh, Vsm}
 
 -- A source is known by a code: its digit, or 8 for `T2`, 9 for `T6`. "The sources here are exactly `0 1 2 6 7 T2 T6`"
 abbrev pub knownSources : List ℕ
 knownSources = 0 ∷ 1 ∷ 2 ∷ 6 ∷ 7 ∷ 8 ∷ 9 ∷ []
+
+-- VSH and VSM: "their streams offer sources 0, 1 and T2"
+abbrev pub hotSources : List ℕ
+hotSources = 0 ∷ 1 ∷ 8 ∷ []
+
+-- the sources of a profile; "the existing gauge becomes the third profile, unchanged"
+abbrev pub sourcesOf : Profile → List ℕ
+sourcesOf Standard = knownSources
+sourcesOf Vsh = hotSources
+sourcesOf Vsm = hotSources
 
 -- whether c is one of the codes
 unfoldable pub among : List ℕ → ℕ → Bool

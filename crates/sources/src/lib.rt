@@ -1,12 +1,20 @@
-// The sources of the stream line and their list (document 01, "Settings and readings, V2"; document 02, "No repeated sources").
+// The profiles of a text gauge, the sources that each offers for the stream line, and lists of them (document 01, "Settings and readings, V2";
+// document 02, "No repeated sources", "Hot cathode gauges").
 ghost use mathlib.Core.Path.{_≡_};
 ghost use mathlib.Core.List.{[], _∷_, _++_};
 ghost use lib.ListN.{length};
 ghost use Rattle.buffer.specs.Byte.{every};
 ghost use Rattle.buffer.specs.Text.{textOf, cut};
-ghost use Rattle.sources.specs.Source.{knownSources, among, allDiffer, standOnce, listable, sourceOf, sourceText, listOf, Counted, Pushed, listText};
+ghost use Rattle.sources.specs.Source.{knownSources, hotSources, sourcesOf, among, allDiffer, standOnce, listable, sourceOf, sourceText, listOf, Counted, Pushed, listText};
 ghost use Rattle.sources.specs.Entries.{opens, Lists};
-ghost use Rattle.sources.specs.Inner.{Taken, Ran};
+ghost use Rattle.sources.specs.Inner.{offeredAs, Taken, Ran};
+
+// The profiles: VSH and VSM, the hot cathode gauges, and the gauge of document 01. Where none is named, it is Standard.
+pub enum Profile {
+    Standard,
+    Vsh,
+    Vsm,
+}
 
 // A list of sources by their codes: a source's digit, 8 for `T2`, 9 for `T6`. The first `count` of the codes.
 pub struct Sources {
@@ -56,7 +64,7 @@ impl Sources {
     }
 }
 
-// Whether a code is one of the gauge's sources.
+// Whether a code is one of the seven sources.
 fn is_code(c: u8) -> bool
     ensures { λ r. ⌜ r ≡ among knownSources c ⌝ }
 {
@@ -81,13 +89,37 @@ fn is_code(c: u8) -> bool
     c == 9
 }
 
-// Whether each code of a list is one of the gauge's sources.
-fn all_codes(codes: &[u8]) -> bool
-    ensures { λ r. ⌜ r ≡ every (among knownSources) (now (codes .entry)) ⌝ }
+// Whether a code is one of the sources of a hot cathode gauge.
+fn is_hot_code(c: u8) -> bool
+    ensures { λ r. ⌜ r ≡ among hotSources c ⌝ }
+{
+    if c == 0 {
+        return true;
+    }
+    if c == 1 {
+        return true;
+    }
+    c == 8
+}
+
+// Whether gauges of this profile have the source of a code.
+pub fn offers(profile: Profile, c: u8) -> bool
+    ensures { λ r. ⌜ r ≡ among (sourcesOf profile) c ⌝ }
+{
+    match profile {
+        Profile::Standard => is_code(c),
+        Profile::Vsh => is_hot_code(c),
+        Profile::Vsm => is_hot_code(c),
+    }
+}
+
+// Whether each code of a list is one of the profile's sources.
+fn all_codes(profile: Profile, codes: &[u8]) -> bool
+    ensures { λ r. ⌜ r ≡ every (among (sourcesOf profile)) (now (codes .entry)) ⌝ }
 {
     let mut i: usize = 0;
     while i < codes.len() {
-        if !is_code(codes[i]) {
+        if !offers(profile, codes[i]) {
             return false;
         }
         i += 1;
@@ -95,13 +127,13 @@ fn all_codes(codes: &[u8]) -> bool
     true
 }
 
-// Whether each source of a list is one of the gauge's.
-pub fn all_known(q: Sources) -> bool
-    ensures { λ r. ⌜ r ≡ every (among knownSources) (listOf q) ⌝ }
+// Whether each source of a list is one of the profile's.
+pub fn all_known(profile: Profile, q: Sources) -> bool
+    ensures { λ r. ⌜ r ≡ every (among (sourcesOf profile)) (listOf q) ⌝ }
 {
     let codes = q.codes;
     let n = q.size();
-    all_codes(&codes[..n])
+    all_codes(profile, &codes[..n])
 }
 
 // Whether a code is one of these.
@@ -137,11 +169,11 @@ pub fn stand_once(q: Sources) -> bool
     all_differ(&codes[..n])
 }
 
-// Whether SM can have a list.
-pub fn is_listable(q: Sources) -> bool
-    ensures { λ r. ⌜ r ≡ listable knownSources (listOf q) ⌝ }
+// Whether SM of a gauge of this profile can have a list.
+pub fn is_listable(profile: Profile, q: Sources) -> bool
+    ensures { λ r. ⌜ r ≡ listable (sourcesOf profile) (listOf q) ⌝ }
 {
-    if !all_known(q) {
+    if !all_known(profile, q) {
         return false;
     }
     stand_once(q)
@@ -188,7 +220,7 @@ fn long_source(a: u8, b: u8) -> Source
     Source::Unknown
 }
 
-// What a text is as the source of an entry.
+// What a text is as the name of a source, whatever the profile.
 pub fn source_of(t: &[u8]) -> Source
     ensures { λ r. ⌜ r ≡ sourceOf knownSources (now (t .entry)) ⌝ }
 {
@@ -200,6 +232,22 @@ pub fn source_of(t: &[u8]) -> Source
         return long_source(t[0], t[1]);
     }
     Source::Malformed
+}
+
+// What a source is to a profile: one that the profile lacks is unknown here.
+fn offered(profile: Profile, e: Source) -> Source
+    ensures { λ r. ⌜ r ≡ offeredAs (sourcesOf profile) e ⌝ }
+{
+    match e {
+        Source::Known(c) => {
+            if !offers(profile, c) {
+                return Source::Unknown;
+            }
+            Source::Known(c)
+        }
+        Source::Unknown => Source::Unknown,
+        Source::Malformed => Source::Malformed,
+    }
 }
 
 // The entries that were read: whether each has the form, whether each is known, and those that found a place.
@@ -234,8 +282,8 @@ fn taken(run: Run, e: Source) -> Run
 }
 
 // All entries of a text.
-fn run_of(s: &[u8]) -> Run
-    ensures { λ r. ⌜ Ran (now (s .entry)) r ⌝ }
+fn run_of(profile: Profile, s: &[u8]) -> Run
+    ensures { λ r. ⌜ Ran (sourcesOf profile) (now (s .entry)) r ⌝ }
 {
     let mut run = Run {
         formed: true,
@@ -246,7 +294,7 @@ fn run_of(s: &[u8]) -> Run
     while i < s.len() {
         let t = buffer::rest(s, i + 1);
         let n = buffer::until(t, b'D');
-        run = taken(run, source_of(&t[..n]));
+        run = taken(run, offered(profile, source_of(&t[..n])));
         i = i + 1 + n;
     }
     run
@@ -276,15 +324,15 @@ fn refused(number: u8) -> Listed
     }
 }
 
-// Reads a text of entries, of any length. The list is never filled past its end; seven known sources hold a repeat or a `0`, so that an entry
+// Reads a text of entries, of any length, for gauges of this profile. The list is never filled past its end; seven known sources hold a repeat or a `0`, so that an entry
 // without a place changes no answer.
-pub fn read_entries(s: &[u8]) -> Listed
-    ensures { λ r. ⌜ Lists (now (s .entry)) r ⌝ }
+pub fn read_entries(profile: Profile, s: &[u8]) -> Listed
+    ensures { λ r. ⌜ Lists (sourcesOf profile) (now (s .entry)) r ⌝ }
 {
     if !is_open(s) {
         return refused(10);
     }
-    let run = run_of(s);
+    let run = run_of(profile, s);
     let formed = run.formed;
     let known = run.known;
     if !formed {

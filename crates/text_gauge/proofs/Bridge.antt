@@ -14,6 +14,7 @@ use Rattle.buffer.proofs.Laws.{within-true, within-above, within-below}
 use Rattle.buffer.proofs.Rules.{each}
 use Rattle.frames.specs.Frame.{isLetter, dataFrom, headV1, headV2}
 use Rattle.frames.specs.declared.HeadV2.{HeadV2}
+use Rattle.settings.specs.Limits.{ProfileLimits}
 use Rattle.forms.specs.Judged.{verdictOf}
 use Rattle.forms.specs.Forms.{digitData}
 use Rattle.forms.specs.declared.Digit.{Digit}
@@ -81,26 +82,26 @@ late-set (verdict.Refused k) f = go (f k refl)
     go (inr (inl e)) = omega arith
     go (inr (inr e)) = omega arith
 
-late-write : (c : Command) (d : List ℕ) → LateV2 (writeOf c d)
+late-write : (limits : ProfileLimits) (c : Command) (d : List ℕ) → LateV2 (writeOf limits c d)
 unfolding writeOf LateV2
-late-write MV d = omega arith
-late-write T2 d = omega arith
-late-write FN d = omega arith
-late-write FS d = omega arith
-late-write (Of key) d = late-set (verdictOf key d) (refused-data key d)
+late-write limits MV d = omega arith
+late-write limits T2 d = omega arith
+late-write limits FN d = omega arith
+late-write limits FS d = omega arith
+late-write limits (Of key) d = late-set (verdictOf limits key d) (refused-data limits key d)
 
-late-known : (a : ℕ) (c : Command) (d : List ℕ) → LateV2 (askKnown a c d)
+late-known : (limits : ProfileLimits) (a : ℕ) (c : Command) (d : List ℕ) → LateV2 (askKnown limits a c d)
 unfolding askKnown LateV2
-late-known a c d = each LateV2 _ _ _ (λ _. omega arith) (λ _. each LateV2 _ _ _ (λ _. late-write c d) (λ _. each LateV2 _ _ _ (λ _. omega arith) (λ _. each LateV2 _ _ _ (λ _. tt) (λ _. tt))))
+late-known limits a c d = each LateV2 _ _ _ (λ _. omega arith) (λ _. each LateV2 _ _ _ (λ _. late-write limits c d) (λ _. each LateV2 _ _ _ (λ _. omega arith) (λ _. each LateV2 _ _ _ (λ _. tt) (λ _. tt))))
 
-late-named : (a : ℕ) (n : Named) (d : List ℕ) → LateV2 (askNamed a n d)
+late-named : (limits : ProfileLimits) (a : ℕ) (n : Named) (d : List ℕ) → LateV2 (askNamed limits a n d)
 unfolding askNamed LateV2
-late-named a Unknown d = omega arith
-late-named a (Known c) d = late-known a c d
+late-named limits a Unknown d = omega arith
+late-named limits a (Known c) d = late-known limits a c d
 
-late-v2 : (h : HeadV2) (d : List ℕ) → LateV2 (askV2 h d)
+late-v2 : (limits : ProfileLimits) (h : HeadV2) (d : List ℕ) → LateV2 (askV2 limits h d)
 unfolding askV2 LateV2
-late-v2 h d = each LateV2 _ _ _ (λ _. omega arith) (λ _. late-named (h .access) (commandOf (h .first) (h .second)) d)
+late-v2 limits h d = each LateV2 _ _ _ (λ _. omega arith) (λ _. late-named limits (h .access) (commandOf (h .first) (h .second)) d)
 
 -- and of what a V1 frame asks
 LateV1 : AskV1 → Type 0
@@ -152,17 +153,17 @@ whole a k t e f = rw (sym e, f)
 -- ---- V2
 
 module _ (g : State) (s : List ℕ) (l : isLetter (at s 3) ≡ false) where
-  reply-v2 : (ask : AskV2) → LateV2 ask → askedV2 s ≡ ask → replyOf g s (decidedV2 g ask) ≡ answerV2 g (headV2 s) ask .reply
+  reply-v2 : (ask : AskV2) → LateV2 ask → askedV2 (g .limits) s ≡ ask → replyOf g s (decidedV2 g ask) ≡ answerV2 g (headV2 s) ask .reply
   unfolding replyOf answerV2 acceptedV2 decidedV2 LateV2 Loud pick
   reply-v2 (AskV2.Asks r) h e = rw (loud-within (grantV2 g r) (grant-v2-loud g r), l, e)
   reply-v2 (AskV2.Refused k) h e = rw (loud-within k (inr h), l, ne-eqb k 0 (λ z. omega arith))
 
-  after-v2 : (ask : AskV2) → LateV2 ask → askedV2 s ≡ ask → afterwards g s (decidedV2 g ask) ≡ nextV2 g (askList (headV2 s) (dataFrom 8 s)) ask
+  after-v2 : (ask : AskV2) → LateV2 ask → askedV2 (g .limits) s ≡ ask → afterwards g s (decidedV2 g ask) ≡ nextV2 g (askList (g .limits) (headV2 s) (dataFrom 8 s)) ask
   unfolding afterwards enteredV2 decidedV2 nextV2 LateV2 pick
   after-v2 (AskV2.Asks r) h e = rw (l, e) (go (eqb (grantV2 g r) 0))
     where
-      go : (b : Bool) → _≡_ {A = State} (settled g (cond b (enteredV2 (g .settings) (askList (headV2 s) (dataFrom 8 s)) (AskV2.Asks r)) (g .settings)))
-          (pick b (settled g (enteredV2 (g .settings) (askList (headV2 s) (dataFrom 8 s)) (AskV2.Asks r))) g)
+      go : (b : Bool) → _≡_ {A = State} (settled g (cond b (enteredV2 (g .limits) (g .settings) (askList (g .limits) (headV2 s) (dataFrom 8 s)) (AskV2.Asks r)) (g .settings)))
+          (pick b (settled g (enteredV2 (g .limits) (g .settings) (askList (g .limits) (headV2 s) (dataFrom 8 s)) (AskV2.Asks r))) g)
       go true = refl
       go false = refl
   after-v2 (AskV2.Refused k) h e = rw (l, ne-eqb k 0 (λ z. omega arith))
@@ -172,11 +173,11 @@ module _ (g : State) (s : List ℕ) (l : isLetter (at s 3) ≡ false) where
   number-of-v2 (AskV2.Asks r) = refl
   number-of-v2 (AskV2.Refused k) = refl
 
-  pub table-v2 : (room : ℕ) → numberOf g room s ≡ decidedV2 g (askedV2 s) → (answerOf g room s ≡ answerV2 g (headV2 s) (askedV2 s)) × (nextOf g room s ≡ nextV2 g (askList (headV2 s) (dataFrom 8 s)) (askedV2 s))
+  pub table-v2 : (room : ℕ) → numberOf g room s ≡ decidedV2 g (askedV2 (g .limits) s) → (answerOf g room s ≡ answerV2 g (headV2 s) (askedV2 (g .limits) s)) × (nextOf g room s ≡ nextV2 g (askList (g .limits) (headV2 s) (dataFrom 8 s)) (askedV2 (g .limits) s))
   unfolding answerOf nextOf
   table-v2 room n =
-      let h = late-v2 (headV2 s) (dataFrom 8 s) in
-      (rw n (whole _ _ _ (number-of-v2 (askedV2 s)) (reply-v2 (askedV2 s) h refl)), rw n (after-v2 (askedV2 s) h refl))
+      let h = late-v2 (g .limits) (headV2 s) (dataFrom 8 s) in
+      (rw n (whole _ _ _ (number-of-v2 (askedV2 (g .limits) s)) (reply-v2 (askedV2 (g .limits) s) h refl)), rw n (after-v2 (askedV2 (g .limits) s) h refl))
 
   -- a wrong LEN
   pub table-length : (room : ℕ) → numberOf g room s ≡ 6 → (answerOf g room s ≡ record { number = 6; reply = errorV2 6 (headV2 s) }) × (nextOf g room s ≡ g)

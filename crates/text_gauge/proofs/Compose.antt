@@ -67,7 +67,7 @@ module _ (gauge : Gauge) (h : HeadV2) (ask : AskV2) (list m m′ : List ℕ) (w 
       rw e (record { sent = rw (f .2, z0, ← g) s; state = rw z0 (stays (stateOf gauge) _ w r f) })
 
 pub granted-v2 : (gauge : Gauge) (h : HeadV2) (ask : AskV2) (list m m′ : List ℕ) (w : Written) (q : RequestV2) (n code : ℕ) (text : List ℕ) (c : Change) → ask ≡ AskV2.Asks q → n ≡ grantV2 (stateOf gauge) q
-    → n ≡ 0 → code ≡ answerCode q → text ≡ textV2 (stateOf gauge) q → Sent m (record { number = 0; reply = frameV2 (answerHead h code) text }) m′ w → ((s : Held) → changedBy s (c .put) (listOf (c .sources)) ≡ enterV2 s q list)
+    → n ≡ 0 → code ≡ answerCode q → text ≡ textV2 (stateOf gauge) q → Sent m (record { number = 0; reply = frameV2 (answerHead h code) text }) m′ w → ((s : Held) → changedBy s (c .put) (listOf (c .sources)) ≡ enterV2 (stateOf gauge .limits) s q list)
     → DecidesV2 (stateOf gauge) h ask list m m′ (record { written = w; change = c; unlocked = gauge .unlocked })
 unfolding answerV2 nextV2 pick
 granted-v2 gauge h ask list m m′ w q n code text c e g z o t f k =
@@ -123,8 +123,8 @@ module _ (gauge : Gauge) (s m : List ℕ) where
         let h′ = rw (a, b, e) at h in
         record { sent = rw (t .0) (h′ .sent); state = h′ .state ∙ sym (t .1) }
 
-    pub v2-answers : (head : HeadV2) (bytes : List ℕ) (ask : AskV2) (list : List ℕ) → isLetter (at s 3) ≡ false → wrongLength s ≡ false → head ≡ headV2 s → bytes ≡ dataFrom 8 s → ask ≡ askV2 head bytes
-        → list ≡ askList head bytes → DecidesV2 (stateOf gauge) head ask list m m′ r → Decides (stateOf gauge) s m m′ r
+    pub v2-answers : (head : HeadV2) (bytes : List ℕ) (ask : AskV2) (list : List ℕ) → isLetter (at s 3) ≡ false → wrongLength s ≡ false → head ≡ headV2 s → bytes ≡ dataFrom 8 s → ask ≡ askV2 (stateOf gauge .limits) head bytes
+        → list ≡ askList (stateOf gauge .limits) head bytes → DecidesV2 (stateOf gauge) head ask list m m′ r → Decides (stateOf gauge) s m m′ r
     v2-answers head bytes ask list l w e b a i h =
         let t = table-v2 (stateOf gauge) s l (length m) (number-v2 s (stateOf gauge) (length m) room fr o l w) in
         let h′ = rw (a, i, b, e) at h in

@@ -4,11 +4,12 @@ use mathlib.Core.List.{List}
 use Prim.Native.Nat.{ℕ}
 use lib.ListN.{length}
 use Rattle.buffer.specs.Answer.{Sent}
-use Rattle.readings.specs.Bench.{benchOf, benchNumber}
+use Rattle.readings.specs.Bench.{benchNumber}
 use Rattle.readings.specs.declared.Bench.{Bench}
 use Rattle.sources.specs.Source.{listOf}
 use Rattle.settings.specs.Settings.{changedBy}
 use Rattle.gauge_rules.specs.State.{State, stateOf, settled, unlockedAs}
+use Rattle.gauge_rules.specs.BenchIn.{benchIn}
 use Rattle.gauge_table.specs.After.{answerOf, nextOf, benched}
 use Rattle.text_gauge.specs.declared.Answered.{Answered}
 use Rattle.text_gauge.specs.declared.Decided.{Decided}
@@ -30,5 +31,5 @@ pub record Decides (g : State) (s before after : List ℕ) (r : Decided) : Type 
 
 -- "An accepted bench setting is answered 0", "anything else is refused with 15"; "no bench call has a reply"
 pub record Benches (g : State) (b : Bench) (r : BenchAnswer) : Type 0 where
-  pub number : r .number ≡ benchNumber (benchOf b)
-  pub state : stateOf (r .gauge) ≡ benched g (benchOf b)
+  pub number : r .number ≡ benchNumber (benchIn (g .limits) b)
+  pub state : stateOf (r .gauge) ≡ benched g (benchIn (g .limits) b)

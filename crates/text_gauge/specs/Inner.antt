@@ -38,7 +38,7 @@ unfoldable pub nextV2 : State → List ℕ → AskV2 → State
 nextV2 g list (AskV2.Refused k) = g
 nextV2 g list (AskV2.Asks r) =
     first
-    (eqb (grantV2 g r) 0 ⇒ settled g (enterV2 (g .settings) r list)
+    (eqb (grantV2 g r) 0 ⇒ settled g (enterV2 (g .limits) (g .settings) r list)
     ∷ [])
     g
 

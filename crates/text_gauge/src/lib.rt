@@ -8,6 +8,7 @@ ghost use Rattle.buffer.specs.Byte.{isDigit, Printed};
 ghost use Rattle.buffer.specs.Text.{textOf};
 ghost use Rattle.buffer.specs.Answer.{Sent};
 ghost use Rattle.sources.specs.Source.{listOf, Counted};
+ghost use Rattle.settings.specs.Limits.{limitsOf};
 ghost use Rattle.settings.specs.Settings.{held};
 ghost use Rattle.settings.specs.declared.Put.{Put};
 ghost use Rattle.frame_writer.specs.Written.{frameV1, frameV2};
@@ -140,6 +141,7 @@ fn decide_v2(
     ensures { λ r. ⌜ DecidesV2 (stateOf g) head (asked .ask) (listOf (asked .sources)) (now (out .entry)) (now (out .exit)) r ⌝ }
     ensures { λ r. ⌜ (Counted (asked .sources) → Counted (r .change .sources)) ⌝ }
 {
+    let profile = g.profile;
     let ask = asked.ask;
     let list = asked.sources;
     match ask {
@@ -156,7 +158,7 @@ fn decide_v2(
             let written = reply_v2(out, head, old.address, code, text);
             Decided {
                 written,
-                change: gauge_rules::change_v2(request, list),
+                change: gauge_rules::change_v2(profile, request, list),
                 unlocked: g.unlocked,
             }
         }
@@ -232,6 +234,7 @@ pub fn decide(g: gauge_rules::Gauge, request: &[u8], out: &mut [u8]) -> Decided
     if out.len() < ROOM {
         return silent(g, 1);
     }
+    let profile = g.profile;
     let s = g.settings;
     let address = s.address as u16;
     match frames::read_frame(request) {
@@ -253,7 +256,7 @@ pub fn decide(g: gauge_rules::Gauge, request: &[u8], out: &mut [u8]) -> Decided
             if head.address != address {
                 return silent(g, 5);
             }
-            let asked = requests::read_v2(head, frames::data_v2(request));
+            let asked = requests::read_v2(profile, head, frames::data_v2(request));
             decide_v2(g, head, asked, out)
         }
     }
@@ -277,13 +280,14 @@ pub fn answer(g: gauge_rules::Gauge, request: &[u8], out: &mut [u8]) -> Answered
 
 // ---- the bench and the stream line
 
-// Sets a reading or FS, or refuses with 15 and changes nothing.
+// Sets a reading of the profile's sources or FS, or refuses with 15 and changes nothing.
 pub fn set_bench(g: gauge_rules::Gauge, b: readings::Bench) -> BenchAnswer
     ensures { λ r. ⌜ Benches (stateOf g) b r ⌝ }
     ensures { λ r. ⌜ (Counted (g .settings .sources) → Counted (r .gauge .settings .sources)) ⌝ }
 {
+    let profile = g.profile;
     let old = g.readings;
-    match readings::judge_bench(b) {
+    match gauge_rules::judge_bench(profile, b) {
         readings::Benched::Refused => BenchAnswer {
             gauge: g,
             number: 15,
@@ -297,9 +301,10 @@ pub fn set_bench(g: gauge_rules::Gauge, b: readings::Bench) -> BenchAnswer
 
 // Writes the stream line. The gauge stays as it is.
 pub fn stream_line(g: gauge_rules::Gauge, out: &mut [u8]) -> buffer::Written
-    ensures { λ r. ⌜ Sent (now (out .entry)) (lineAnswer (length (now (out .entry))) (held (g .settings)) (g .readings)) (now (out .exit)) r ⌝ }
+    ensures { λ r. ⌜ Sent (now (out .entry)) (lineAnswer (limitsOf (g .profile)) (length (now (out .entry))) (held (g .settings)) (g .readings)) (now (out .exit)) r ⌝ }
 {
+    let profile = g.profile;
     let s = g.settings;
     let r = g.readings;
-    line::stream_line(s, r, out)
+    line::stream_line(profile, s, r, out)
 }

@@ -5,5 +5,5 @@ use Rattle.written_facts.specs.Theorems.{RequestAgain}
 
 -- one theorem for both protocols
 pub request-again : RequestAgain
-request-again room address (inV1 r) accepted = request-again-v1 room address r accepted
-request-again room address (inV2 r q) accepted = request-again-v2 room address r q accepted
+request-again limits ok room address (inV1 r) accepted = request-again-v1 limits room address r accepted
+request-again limits ok room address (inV2 r q) accepted = request-again-v2 limits ok room address r q accepted

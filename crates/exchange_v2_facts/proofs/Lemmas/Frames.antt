@@ -20,6 +20,7 @@ use Rattle.error_texts.specs.declared.ErrorText.{ErrorText}
 use Rattle.error_texts.specs.declared.ErrorText.the-variants.{Length, Logic, NoDef, Syntax, Range, Error1}
 use Rattle.frame_writer.specs.Sendable.{SendableV2}
 use Rattle.frames_facts.proofs.ReadBack.{read-back-v2}
+use Rattle.settings.specs.Limits.{ProfileLimits}
 use Rattle.requests.specs.Command.{commandText}
 use Rattle.requests.specs.declared.RequestV2.{RequestV2}
 use Rattle.requests.specs.declared.RequestV2.the-variants as request
@@ -36,12 +37,12 @@ use Rattle.gauge_table.specs.Reply.{answerHead}
 use Rattle.gauge_table.proofs.Sendable.{code-digit, answer-sendable}
 
 -- a written frame, with the address that was asked, is read by its head and its data
-pub by-head : (a : ℕ) (r : RequestV2) (h : HeadV2) (s : List ℕ) → h .address ≡ a → SendableV2 h s → (readV2 a r (frameV2 h s) ≡ bodyReply r h s) × (dataFrom 8 (frameV2 h s) ≡ s)
+pub by-head : (limits : ProfileLimits) (a : ℕ) (r : RequestV2) (h : HeadV2) (s : List ℕ) → h .address ≡ a → SendableV2 h s → (readV2 limits a r (frameV2 h s) ≡ bodyReply limits r h s) × (dataFrom 8 (frameV2 h s) ≡ s)
 unfolding frameV2 closed viaFrame pick
-by-head a r h s e ok =
+by-head limits a r h s e ok =
     let w = read-back-v2 h s ok in
-    let v : viaFrame a r (frameV2 h s) (V2 h) ≡ bodyReply r h s = rw (w .rest, eq-eqb (h .address) a e) in
-    (sym (at-frame a r (frameV2 h s) (V2 h) (ok .access-in) (w .head)) ∙ v, w .rest)
+    let v : viaFrame limits a r (frameV2 h s) (V2 h) ≡ bodyReply limits r h s = rw (w .rest, eq-eqb (h .address) a e) in
+    (sym (at-frame limits a r (frameV2 h s) (V2 h) (ok .access-in) (w .head)) ∙ v, w .rest)
 
 -- ---- heads
 
@@ -65,12 +66,12 @@ answer-code (request.Read c) = (refl, refl)
 answer-code (request.Restore c) = (refl, refl)
 answer-code (request.Set x) = (refl, refl)
 
-pub accepted-read : (a : ℕ) (r : RequestV2) (s : List ℕ) → within 1 999 a ≡ true → Printed s → length s ≤ 99
-    → (readV2 a r (frameV2 (answerHead (headFor a r) (answerCode r)) s) ≡ dataReply r s) × (dataFrom 8 (frameV2 (answerHead (headFor a r) (answerCode r)) s) ≡ s)
+pub accepted-read : (limits : ProfileLimits) (a : ℕ) (r : RequestV2) (s : List ℕ) → within 1 999 a ≡ true → Printed s → length s ≤ 99
+    → (readV2 limits a r (frameV2 (answerHead (headFor a r) (answerCode r)) s) ≡ dataReply limits r s) × (dataFrom 8 (frameV2 (answerHead (headFor a r) (answerCode r)) s) ≡ s)
 unfolding headFor bodyReply mismatched pick
-accepted-read a r s i p l =
+accepted-read limits a r s i p l =
     let c = answer-code r in
-    let h = by-head a r (answerHead (headFor a r) (answerCode r)) s refl (sendable a r (answerCode r) s i (code-digit r) p l) in
+    let h = by-head limits a r (answerHead (headFor a r) (answerCode r)) s refl (sendable a r (answerCode r) s i (code-digit r) p l) in
     let m = same-command a r (answerCode r) in
     (h .0 ∙ rw (c .0, m, c .1), h .1)
 
@@ -89,9 +90,9 @@ error-code : (r : RequestV2) → otherAccess r 55 ≡ false
 unfolding otherAccess
 error-code r = and-false (not (eqb 55 (accessOf r + 1)))
 
-pub error-read : (a : ℕ) (r : RequestV2) (e : ErrorText) → within 1 999 a ≡ true → readV2 a r (frameV2 (errorHeadV2 (headFor a r)) (errorBytes e)) ≡ Read (Error e)
+pub error-read : (limits : ProfileLimits) (a : ℕ) (r : RequestV2) (e : ErrorText) → within 1 999 a ≡ true → readV2 limits a r (frameV2 (errorHeadV2 (headFor a r)) (errorBytes e)) ≡ Read (Error e)
 unfolding headFor errorHeadV2 bodyReply mismatched pick within
-error-read a r e i =
-    let h = by-head a r (answerHead (headFor a r) 55) (errorBytes e) refl (sendable a r 55 (errorBytes e) i refl (error-printed e) (omega (arith, error-le e))) in
+error-read limits a r e i =
+    let h = by-head limits a r (answerHead (headFor a r) 55) (errorBytes e) refl (sendable a r 55 (errorBytes e) i refl (error-printed e) (omega (arith, error-le e))) in
     let m = same-command a r 55 in
     h .0 ∙ rw (error-code r, m) (error-text e)

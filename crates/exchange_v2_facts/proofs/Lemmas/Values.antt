@@ -35,7 +35,7 @@ use Rattle.forms.specs.declared.Ends.{Ends}
 use Rattle.forms.specs.declared.Ends.the-variants.{None, One, Two}
 use Rattle.forms.specs.declared.Verdict.{Verdict}
 use Rattle.forms.specs.declared.Verdict.the-variants as verdict
-use Rattle.forms_facts.specs.Sound.{SoundSettings, settingIn}
+use Rattle.forms_facts.specs.Sound.{SoundSettings, Proper, settingIn}
 use Rattle.forms_facts.proofs.Digit.{digit-exactly}
 use Rattle.forms_facts.proofs.Read.{read-again, list-read-again}
 use Rattle.forms_facts.proofs.Lemmas.Texts.{none-number}
@@ -44,7 +44,7 @@ use Rattle.replies_v2_values.specs.Value.{measuredReply, pressureReply, degrees
 use Rattle.replies_v2_values.specs.declared.ReplyV2.the-variants.{Measured, UnderRange, OverRange, Degrees, FilamentNumber, StatusNumber, Holds}
 use Rattle.replies_v2_values.specs.declared.ReadV2.{ReadV2}
 use Rattle.replies_v2_values.specs.declared.ReadV2.the-variants.{Read}
-use Rattle.settings.specs.Limits.{benchLimits}
+use Rattle.settings.specs.Limits.{ProfileLimits, benchLimits}
 use Rattle.readings.specs.Reading.{underText, overText}
 
 -- ---- FN and FS
@@ -98,24 +98,24 @@ transition-held (One n) x e = ap heldReply e
 transition-held (Two low high) x e = between-held low high x e
 
 -- data that a write would accept are read as the setting that it would set
-pub accepted-held : (key : Key) (s : List ℕ) (x : Setting) → verdictOf key s ≡ verdict.Set x → settingReply key s ≡ Read (Holds x)
+pub accepted-held : (limits : ProfileLimits) (key : Key) (s : List ℕ) (x : Setting) → verdictOf limits key s ≡ verdict.Set x → settingReply limits key s ≡ Read (Holds x)
 unfolding settingReply heldReply verdictOf transitionData
-accepted-held DA s x e = ap heldReply e
-accepted-held DU s x e = ap heldReply e
-accepted-held C1 s x e = ap heldReply e
-accepted-held CM s x e = ap heldReply e
-accepted-held CC s x e = ap heldReply e
-accepted-held FC s x e = ap heldReply e
-accepted-held ST s x e = transition-held (endsOf s) x e
-accepted-held SM s x e = ap heldReply e
+accepted-held limits DA s x e = ap heldReply e
+accepted-held limits DU s x e = ap heldReply e
+accepted-held limits C1 s x e = ap heldReply e
+accepted-held limits CM s x e = ap heldReply e
+accepted-held limits CC s x e = ap heldReply e
+accepted-held limits FC s x e = ap heldReply e
+accepted-held limits ST s x e = transition-held (endsOf limits s) x e
+accepted-held limits SM s x e = ap heldReply e
 
-pub setting-read : (key : Key) (h : Held) → SoundSettings h → settingReply key (readText key h) ≡ Read (Holds (settingIn key h))
-setting-read key h f = accepted-held key (readText key h) (settingIn key h) (read-again key h f)
+pub setting-read : (limits : ProfileLimits) → Proper limits → (key : Key) (h : Held) → SoundSettings limits h → settingReply limits key (readText key h) ≡ Read (Holds (settingIn key h))
+setting-read limits ok key h f = accepted-held limits key (readText key h) (settingIn key h) (read-again limits ok key h f)
 
 -- no text lists no sources
-no-sources : entriesList [] ≡ []
+no-sources : (codes : List ℕ) → entriesList codes [] ≡ []
 unfolding entriesList entriesOf sourceTexts
-no-sources = rw none-number
+no-sources codes = rw (none-number codes)
 
 none-set : (v : Verdict) → ifSet v [] ≡ []
 unfolding ifSet
@@ -123,10 +123,10 @@ none-set (verdict.Set x) = refl
 none-set (verdict.Refused k) = refl
 
 -- the list of a read of SM: none while no lines are sent
-pub stream-list : (h : Held) → SoundSettings h → (on : Bool) → h .streaming ≡ on → listIn SM (readText SM h) ≡ cond on (h .list) []
+pub stream-list : (limits : ProfileLimits) → Proper limits → (h : Held) → SoundSettings limits h → (on : Bool) → h .streaming ≡ on → listIn limits SM (readText SM h) ≡ cond on (h .list) []
 unfolding readText streamText listIn
-stream-list h f true e = list-read-again h f e
-stream-list h f false e = rw (e, no-sources) (none-set (streamData (48 ∷ [])))
+stream-list limits ok h f true e = list-read-again limits ok h f e
+stream-list limits ok h f false e = rw (e, no-sources (limits .sourceCodes)) (none-set (streamData limits (48 ∷ [])))
 
 -- ---- MV
 

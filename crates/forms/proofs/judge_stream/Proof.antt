@@ -3,6 +3,7 @@ use mathlib.Core.Path.{sym, _∙_}
 use borrow.Author.Needs.{needs}
 use Rattle.forms.specs.Forms.{streamData}
 use Rattle.forms.specs.Judged.{verdictOf, listIn, ifSet}
+use Rattle.forms.proofs.Listed.{listed-in}
 use Rattle.forms.proofs.judge_stream.Statement.{statement}
 use Rattle.forms.proofs.judge_stream.Tie as tie
 
@@ -10,7 +11,8 @@ use Rattle.forms.proofs.judge_stream.Tie as tie
 returns : tie.Need-returns
 unfolding verdictOf listIn streamData ifSet
 returns c =
-    let l = c .before .before .before .before .before .read-entries .ensures in
+    let p = c .before .before .before .before .before .before .before .before .args .profile in
+    let l = listed-in p _ _ (c .before .before .before .before .before .read-entries .ensures) in
     let t = c .before .before .before .before .before .before .rest .ensures in
     let v = rw (l .number, t) at (c .before .before .before .stream-verdict .ensures) in
     let e = c .before .x .given .1 in
@@ -19,7 +21,8 @@ returns c =
 returns-2 : tie.Need-returns-2
 unfolding verdictOf listIn streamData ifSet
 returns-2 c =
-    let l = c .before .before .before .before .before .before .read-entries .ensures in
+    let p = c .before .before .before .before .before .before .before .before .before .args .profile in
+    let l = listed-in p _ _ (c .before .before .before .before .before .before .read-entries .ensures) in
     let t = c .before .before .before .before .before .before .before .rest .ensures in
     let v = rw (l .number, t) at (c .before .before .before .before .stream-verdict .ensures) in
     let e = c .before .before .k .given .1 in

@@ -5,7 +5,7 @@ use mathlib.Core.List.{List, [], _∷_, _++_}
 use Prim.Native.Nat.{ℕ, suc, _+_, _<_}
 use native.Mathlib.Numerals.{add-one}
 use native.Mathlib.Omega.{arith}
-use borrow.Author.Tests.{eqb-true, eq-eqb, not-true}
+use borrow.Author.Tests.{not-false, eqb-true, eq-eqb, not-true}
 use lib.Dec.{eqb}
 use lib.ListN.{length, take, drop}
 use Rattle.buffer.specs.Byte.{untilOf}
@@ -17,6 +17,9 @@ lacks b (x ∷ s) = not (eqb x b) && lacks b s
 
 pub split : (a b : Bool) → (a && b) ≡ true → (a ≡ true) × (b ≡ true)
 split a b e = and-eq-true-iff a b .0 e
+
+pub both-told : (a b : Bool) → not (a && b) ≡ false → (a ≡ true) × (b ≡ true)
+both-told a b e = split a b (not-false (a && b) e)
 
 pub lacks-append : (b : ℕ) (s t : List ℕ) → lacks b s ≡ true → lacks b t ≡ true → lacks b (s ++ t) ≡ true
 unfolding lacks

@@ -10,7 +10,7 @@ use lib.Dec.{eqb, eqb·suc-zero}
 use lib.ListN.{length}
 use Rattle.buffer.specs.First.{pick}
 use Rattle.buffer.specs.Byte.{every}
-use Rattle.sources.specs.Source.{sourceOf, knownSources, listText, among, standOnce, listable}
+use Rattle.sources.specs.Source.{sourceOf, listText, among, standOnce, listable}
 use Rattle.sources.proofs.Known.{Named, source-named, codes-known}
 use Rattle.sources.proofs.Weights.{at-most, once-exactly}
 use Rattle.sources.specs.Theorems.{RepeatOrZero}
@@ -18,17 +18,17 @@ use Rattle.sources.specs.Entries.{onto, parts, sourceTexts, entriesOf, isFormed
 use Rattle.sources.specs.declared.Source.{Source}
 use Rattle.sources.specs.declared.Source.the-variants.{Known, Unknown, Malformed}
 use Rattle.forms_facts.specs.Codes.{GoodList, entriesText}
-use Rattle.forms_facts.specs.Theorems.{AtMostSix}
+use Rattle.forms_facts.specs.Theorems.{AtMostEntries}
 
 -- ---- the texts of sources that are all known
 
-pub texts-known : (ts : List (List ℕ)) → every isKnown (map (sourceOf knownSources) ts) ≡ true → listText (map codeOf (map (sourceOf knownSources) ts)) ≡ entriesText ts
+pub texts-known : (codes : List ℕ) (ts : List (List ℕ)) → every isKnown (map (sourceOf codes) ts) ≡ true → listText (map codeOf (map (sourceOf codes) ts)) ≡ entriesText ts
 unfolding every listText entriesText
-texts-known [] e = refl
-texts-known (t ∷ ts) e = go (sourceOf knownSources t) (source-named knownSources t) (texts-known ts) e
+texts-known codes [] e = refl
+texts-known codes (t ∷ ts) e = go (sourceOf codes t) (source-named codes t) (texts-known codes ts) e
   where
-    go : (r : Source) → Named knownSources t r → (every isKnown (map (sourceOf knownSources) ts) ≡ true → listText (map codeOf (map (sourceOf knownSources) ts)) ≡ entriesText ts)
-        → (isKnown r && every isKnown (map (sourceOf knownSources) ts)) ≡ true → listText (codeOf r ∷ map codeOf (map (sourceOf knownSources) ts)) ≡ 68 ∷ (t ++ entriesText ts)
+    go : (r : Source) → Named codes t r → (every isKnown (map (sourceOf codes) ts) ≡ true → listText (map codeOf (map (sourceOf codes) ts)) ≡ entriesText ts)
+        → (isKnown r && every isKnown (map (sourceOf codes) ts)) ≡ true → listText (codeOf r ∷ map codeOf (map (sourceOf codes) ts)) ≡ 68 ∷ (t ++ entriesText ts)
     go (Known c) h f k = rw (f k, h .1)
     go Unknown h f k = absurd (let z : _≡_ {A = ℕ} 0 1 = cc in omega arith)
     go Malformed h f k = absurd (let z : _≡_ {A = ℕ} 0 1 = cc in omega arith)
@@ -57,37 +57,37 @@ joined-texts (x ∷ s) e = cc (joined-parts s, eqb-true x 68 (rw (eqb·suc-zero 
 -- ---- how a text of entries is judged
 
 -- a text of entries whose sources are all known
-pub record AllKnown (s : List ℕ) : Type 0 where
-  pub number : entriesNumber s ≡ pick (not (standOnce (map codeOf (entriesOf s)))) 12 0
+pub record AllKnown (codes : List ℕ) (s : List ℕ) : Type 0 where
+  pub number : entriesNumber codes s ≡ pick (not (standOnce (map codeOf (entriesOf codes s)))) 12 0
   pub opened : opens s ≡ true
-  pub known : every isKnown (entriesOf s) ≡ true
+  pub known : every isKnown (entriesOf codes s) ≡ true
 
 -- what is neither SYNTAX nor RANGE is such a text
-pub listed : (s : List ℕ) → eqb (entriesNumber s) 10 ≡ false → eqb (entriesNumber s) 11 ≡ false → AllKnown s
+pub listed : (codes : List ℕ) (s : List ℕ) → eqb (entriesNumber codes s) 10 ≡ false → eqb (entriesNumber codes s) 11 ≡ false → AllKnown codes s
 unfolding entriesNumber pick
-listed s e f = go (not (opens s)) (not (every isFormed (entriesOf s))) (not (every isKnown (entriesOf s))) refl refl refl e f
+listed codes s e f = go (not (opens s)) (not (every isFormed (entriesOf codes s))) (not (every isKnown (entriesOf codes s))) refl refl refl e f
   where
     rest : ℕ
-    rest = pick (not (standOnce (map codeOf (entriesOf s)))) 12 0
+    rest = pick (not (standOnce (map codeOf (entriesOf codes s)))) 12 0
 
     rows : (a b c : Bool) → ℕ
     rows a b c = pick a 10 (pick b 10 (pick c 11 rest))
 
-    go : (a b c : Bool) → not (opens s) ≡ a → not (every isFormed (entriesOf s)) ≡ b → not (every isKnown (entriesOf s)) ≡ c → eqb (rows a b c) 10 ≡ false → eqb (rows a b c) 11 ≡ false
-        → AllKnown s
+    go : (a b c : Bool) → not (opens s) ≡ a → not (every isFormed (entriesOf codes s)) ≡ b → not (every isKnown (entriesOf codes s)) ≡ c → eqb (rows a b c) 10 ≡ false → eqb (rows a b c) 11 ≡ false
+        → AllKnown codes s
     go false false false p q r h k = record { number = rw (p, q, r); opened = not-false _ p; known = not-false _ r }
     go true b c p q r h k = absurd (let z : _≡_ {A = ℕ} 0 1 = cc in omega arith)
     go false true c p q r h k = absurd (let z : _≡_ {A = ℕ} 0 1 = cc in omega arith)
     go false false true p q r h k = absurd (let z : _≡_ {A = ℕ} 0 1 = cc in omega arith)
 
 -- such a text is the text of its list, whose sources are known
-pub listed-known : (s : List ℕ) → AllKnown s → every (among knownSources) (map codeOf (entriesOf s)) ≡ true
+pub listed-known : (codes : List ℕ) (s : List ℕ) → AllKnown codes s → every (among codes) (map codeOf (entriesOf codes s)) ≡ true
 unfolding entriesOf
-listed-known s f = codes-known knownSources (sourceTexts s) (f .known)
+listed-known codes s f = codes-known codes (sourceTexts s) (f .known)
 
-pub listed-text : (s : List ℕ) → AllKnown s → listText (map codeOf (entriesOf s)) ≡ s
+pub listed-text : (codes : List ℕ) (s : List ℕ) → AllKnown codes s → listText (map codeOf (entriesOf codes s)) ≡ s
 unfolding entriesOf
-listed-text s f = texts-known (sourceTexts s) (f .known) ∙ joined-texts s (f .opened)
+listed-text codes s f = texts-known codes (sourceTexts s) (f .known) ∙ joined-texts s (f .opened)
 
 -- none stands twice exactly if it is not refused
 pub once-number : (b : Bool) (n : ℕ) → n ≡ pick (not b) 12 0 → b ≡ not (eqb n 12)
@@ -102,13 +102,13 @@ once-zero false n e h = absurd (let z : _≡_ {A = Bool} true false = rw e at h 
 
 -- ---- lists that SM can have
 
-pub none-good : GoodList []
+pub none-good : (codes : List ℕ) → GoodList codes []
 unfolding every among
-none-good = record { known = refl; once = λ r. omega (arith, r .apart, r .inside); unlisted = refl }
+none-good codes = record { known = refl; once = λ r. omega (arith, r .apart, r .inside); unlisted = refl }
 
 -- known, and standing once
-pub once-good : (list : List ℕ) → every (among knownSources) list ≡ true → standOnce list ≡ true → GoodList list
-once-good list k l =
+pub once-good : (codes : List ℕ) (list : List ℕ) → every (among codes) list ≡ true → standOnce list ≡ true → GoodList codes list
+once-good codes list k l =
     record {
       known = k;
       once = λ r. absurd (no (inl r));
@@ -122,8 +122,8 @@ once-good list k l =
     go true e = absurd (no (inr e))
     go false e = refl
 
-pub good-once : (list : List ℕ) → GoodList list → standOnce list ≡ true
-good-once list f = go (standOnce list) refl
+pub good-once : (codes : List ℕ) (list : List ℕ) → GoodList codes list → standOnce list ≡ true
+good-once codes list f = go (standOnce list) refl
   where
     refuse : RepeatOrZero list → ⊥
     refuse (inl r) = f .once r
@@ -133,41 +133,40 @@ good-once list f = go (standOnce list) refl
     go true e = refl
     go false e = absurd (refuse (once-exactly list .0 e))
 
-pub good-listable : (list : List ℕ) → GoodList list → listable knownSources list ≡ true
+pub good-listable : (codes : List ℕ) (list : List ℕ) → GoodList codes list → listable codes list ≡ true
 unfolding listable
-good-listable list f = rw (f .known, good-once list f)
+good-listable codes list f = rw (f .known, good-once codes list f)
 
-pub at-most-six : AtMostSix
-unfolding among
-at-most-six list f = at-most knownSources list refl (good-listable list f)
+pub at-most-entries : AtMostEntries
+at-most-entries limits ok list f = at-most (limits .sourceCodes) list (ok .first) (good-listable (limits .sourceCodes) list f)
 
 -- what is accepted: such a text, and none stands twice
-pub record Fits (s : List ℕ) : Type 0 where
-  pub number : entriesNumber s ≡ 0
-  pub listed : AllKnown s
-  pub good : GoodList (map codeOf (entriesOf s))
+pub record Fits (codes : List ℕ) (s : List ℕ) : Type 0 where
+  pub number : entriesNumber codes s ≡ 0
+  pub listed : AllKnown codes s
+  pub good : GoodList codes (map codeOf (entriesOf codes s))
 
-pub fits : (s : List ℕ) → eqb (entriesNumber s) 10 ≡ false → eqb (entriesNumber s) 11 ≡ false → eqb (entriesNumber s) 12 ≡ false → Fits s
-fits s e f h =
-    let w = listed s e f in
-    let codes = map codeOf (entriesOf s) in
+pub fits : (codes : List ℕ) (s : List ℕ) → eqb (entriesNumber codes s) 10 ≡ false → eqb (entriesNumber codes s) 11 ≡ false → eqb (entriesNumber codes s) 12 ≡ false → Fits codes s
+fits codes s e f h =
+    let w = listed codes s e f in
+    let list′ = map codeOf (entriesOf codes s) in
     record {
-      number = once-zero (standOnce codes) (entriesNumber s) (w .number) h;
+      number = once-zero (standOnce list′) (entriesNumber codes s) (w .number) h;
       listed = w;
-      good = once-good codes (listed-known s w) (once-number (standOnce codes) (entriesNumber s) (w .number) ∙ ap not h);
+      good = once-good codes list′ (listed-known codes s w) (once-number (standOnce list′) (entriesNumber codes s) (w .number) ∙ ap not h);
     }
 
-pub entries-good : (s : List ℕ) → GoodList (entriesList s)
+pub entries-good : (codes : List ℕ) (s : List ℕ) → GoodList codes (entriesList codes s)
 unfolding entriesList
-entries-good s = go (eqb (entriesNumber s) 0) refl
+entries-good codes s = go (eqb (entriesNumber codes s) 0) refl
   where
-    go : (b : Bool) → eqb (entriesNumber s) 0 ≡ b → GoodList (cond b (map codeOf (entriesOf s)) [])
+    go : (b : Bool) → eqb (entriesNumber codes s) 0 ≡ b → GoodList codes (cond b (map codeOf (entriesOf codes s)) [])
     go true e =
-        let z : entriesNumber s ≡ 0 = eqb-true (entriesNumber s) 0 e in
-        fits s (rw z) (rw z) (rw z) .good
-    go false e = none-good
+        let z : entriesNumber codes s ≡ 0 = eqb-true (entriesNumber codes s) 0 e in
+        fits codes s (rw z) (rw z) (rw z) .good
+    go false e = none-good codes
 
 -- an accepted text is the text of its list
-pub entries-again : (s : List ℕ) → Fits s → listText (entriesList s) ≡ s
+pub entries-again : (codes : List ℕ) (s : List ℕ) → Fits codes s → listText (entriesList codes s) ≡ s
 unfolding entriesList
-entries-again s f = rw (f .number) (listed-text s (f .listed))
+entries-again codes s f = rw (f .number) (listed-text codes s (f .listed))

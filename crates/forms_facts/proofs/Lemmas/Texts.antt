@@ -1,18 +1,19 @@
 -- The texts of lists of sources.
-use mathlib.Core.Path.{_≡_, refl, _∙_}
-use mathlib.Core.Bool.{Bool, true, false, not, _||_, or-true}
+use mathlib.Core.Path.{_≡_, refl, sym, ap, _∙_}
+use mathlib.Core.Bool.{Bool, true, false, not, _||_, or-true, true≢false}
 use mathlib.Core.List.{List, [], _∷_, _++_, map}
-use Prim.Native.Nat.{ℕ, _≤_}
+use Prim.Native.Nat.{ℕ, zero, suc, _<_, _≤_}
 use native.Mathlib.Omega.{arith}
-use borrow.Author.Tests.{eqb-true, ne-eqb, not-true}
+use borrow.Author.Tests.{eqb-true, eq-eqb, ne-eqb, not-true}
 use lib.Dec.{eqb}
 use lib.ListN.{length}
 use Rattle.buffer.specs.First.{pick}
 use Rattle.buffer.specs.Byte.{within, every, sameText, digit}
+use Rattle.buffer.proofs.Laws.{same-self, same-equal}
 use Rattle.buffer.proofs.Rules.{each}
 use Rattle.sources.specs.Source.{sourceText, isSource, findSource, sourceOf, knownSources, listText, among, allDiffer, standOnce}
 use Rattle.sources.specs.Entries.{onto, parts, sourceTexts, entriesOf, isFormed, isKnown, codeOf, opens, entriesNumber, entriesList}
-use Rattle.sources.specs.declared.Source.the-variants.{Known}
+use Rattle.sources.specs.declared.Source.the-variants.{Known, Unknown}
 use Rattle.forms_facts.specs.Codes.{GoodList, entriesText}
 use Rattle.forms_facts.proofs.Lemmas.Lacks.{lacks, split}
 use Rattle.forms_facts.proofs.Lemmas.Lists.{good-once}
@@ -78,21 +79,97 @@ of-each P (d ∷ codes) c h e = go (eqb c d) refl e (of-each P codes c (h .1))
     go true f k r = rw (eqb-true c d f) (h .0)
     go false f k r = r k
 
--- the text of a known source names it
-source-again : (c : ℕ) → among knownSources c ≡ true → sourceOf knownSources (sourceText c) ≡ Known c
+-- the codes of one digit; document 01's sources are some of them
+abbrev pub digitCodes : List ℕ
+digitCodes = 0 ∷ 1 ∷ 2 ∷ 3 ∷ 4 ∷ 5 ∷ 6 ∷ 7 ∷ 8 ∷ 9 ∷ []
+
+-- the text of each names it, and is of the form
+named-again : (c : ℕ) → among digitCodes c ≡ true → sourceOf digitCodes (sourceText c) ≡ Known c
 unfolding sourceOf findSource sourceText isSource every within sameText pick
-source-again c e = of-each (λ (k : ℕ). sourceOf knownSources (sourceText k) ≡ Known k) knownSources c (refl, (refl, (refl, (refl, (refl, (refl, (refl, tt))))))) e
+named-again c e = of-each (λ (k : ℕ). sourceOf digitCodes (sourceText k) ≡ Known k) digitCodes c (refl, (refl, (refl, (refl, (refl, (refl, (refl, (refl, (refl, (refl, tt)))))))))) e
 
-sources-again : (cs : List ℕ) → every (among knownSources) cs ≡ true → map (sourceOf knownSources) (map sourceText cs) ≡ map Known cs
+text-formed : (c : ℕ) → among digitCodes c ≡ true → isSource (sourceText c) ≡ true
+unfolding sourceText isSource every within pick
+text-formed c e = of-each (λ (k : ℕ). isSource (sourceText k) ≡ true) digitCodes c (refl, (refl, (refl, (refl, (refl, (refl, (refl, (refl, (refl, (refl, tt)))))))))) e
+
+-- so two of them with one text are one
+one-source : (c d : ℕ) → among digitCodes c ≡ true → among digitCodes d ≡ true → sourceText c ≡ sourceText d → c ≡ d
+one-source c d e f t =
+    let z : Known c ≡ Known d = sym (named-again c e) ∙ ap (sourceOf digitCodes) t ∙ named-again d f in
+    ap codeOf z
+
+-- one of the sources of a list, all of which are among others
+among-more : (big cs : List ℕ) (c : ℕ) → every (among big) cs ≡ true → among cs c ≡ true → among big c ≡ true
+unfolding every among
+among-more big [] c k h = absurd (let z : _≡_ {A = ℕ} 0 1 = cc in omega arith)
+among-more big (d ∷ cs) c k h = let w = split (among big d) (every (among big) cs) k in go (eqb c d) refl h (w .0) (among-more big cs c (w .1))
+  where
+    go : (b : Bool) → eqb c d ≡ b → (b || among cs c) ≡ true → among big d ≡ true → (among cs c ≡ true → among big c ≡ true) → among big c ≡ true
+    go true e f g r = rw (eqb-true c d e) g
+    go false e f g r = r f
+
+pub all-among : (big cs : List ℕ) → every (among big) cs ≡ true → (list : List ℕ) → every (among cs) list ≡ true → every (among big) list ≡ true
 unfolding every
-sources-again [] e = refl
-sources-again (c ∷ cs) e =
-    let w = split (among knownSources c) (every (among knownSources) cs) e in
-    rw (source-again c (w .0), sources-again cs (w .1))
+all-among big cs k [] e = refl
+all-among big cs k (c ∷ list) e = let w = split (among cs c) (every (among cs) list) e in rw (among-more big cs c k (w .0), all-among big cs k list (w .1))
 
-pub entries-of : (cs : List ℕ) → every (among knownSources) cs ≡ true → entriesOf (listText cs) ≡ map Known cs
-unfolding entriesOf
-entries-of cs e = rw (texts-of cs) (sources-again cs e)
+known-digits : (cs : List ℕ) → every (among knownSources) cs ≡ true → every (among digitCodes) cs ≡ true
+unfolding every among
+known-digits cs k = all-among digitCodes knownSources refl cs k
+
+pub digit-code : (c : ℕ) → c < 10 → among digitCodes c ≡ true
+unfolding among
+digit-code zero h = refl
+digit-code (suc zero) h = refl
+digit-code (suc (suc zero)) h = refl
+digit-code (suc (suc (suc zero))) h = refl
+digit-code (suc (suc (suc (suc zero)))) h = refl
+digit-code (suc (suc (suc (suc (suc zero))))) h = refl
+digit-code (suc (suc (suc (suc (suc (suc zero)))))) h = refl
+digit-code (suc (suc (suc (suc (suc (suc (suc zero))))))) h = refl
+digit-code (suc (suc (suc (suc (suc (suc (suc (suc zero)))))))) h = refl
+digit-code (suc (suc (suc (suc (suc (suc (suc (suc (suc zero))))))))) h = refl
+digit-code (suc (suc (suc (suc (suc (suc (suc (suc (suc (suc c)))))))))) h = absurd (omega arith)
+
+-- the text of a code of one digit names it where it is among the sources, and none of them otherwise
+find-told : (cs : List ℕ) (c : ℕ) → every (among digitCodes) cs ≡ true → among digitCodes c ≡ true → findSource cs (sourceText c) ≡ pick (among cs c) (Known c) Unknown
+unfolding findSource every among pick
+find-told [] c k e = refl
+find-told (d ∷ cs) c k e =
+    let w = split (among digitCodes d) (every (among digitCodes) cs) k in
+    go (sameText (sourceText c) (sourceText d)) refl (w .0) (find-told cs c (w .1) e)
+  where
+    other : sameText (sourceText c) (sourceText d) ≡ false → eqb c d ≡ false
+    other n = ne-eqb c d (λ (z : c ≡ d). true≢false (sym (same-self (sourceText d)) ∙ rw z at n))
+
+    go : (b : Bool) → sameText (sourceText c) (sourceText d) ≡ b → among digitCodes d ≡ true → findSource cs (sourceText c) ≡ pick (among cs c) (Known c) Unknown
+        → pick b (Known d) (findSource cs (sourceText c)) ≡ pick (eqb c d || among cs c) (Known c) Unknown
+    go true n f r =
+        let z : c ≡ d = one-source c d e f (same-equal (sourceText c) (sourceText d) n) in
+        rw (eq-eqb c d z) (ap Known (sym z))
+    go false n f r = rw (other n) r
+
+pub source-told : (codes : List ℕ) (c : ℕ) → every (among knownSources) codes ≡ true → among digitCodes c ≡ true → sourceOf codes (sourceText c) ≡ pick (among codes c) (Known c) Unknown
+unfolding sourceOf pick
+source-told codes c k e = rw (text-formed c e) (find-told codes c (known-digits codes k) e)
+
+-- where the gauge's sources are some of the known ones
+module _ (codes : List ℕ) (here : every (among knownSources) codes ≡ true) where
+  -- the text of one of them names it
+  source-again : (c : ℕ) → among codes c ≡ true → sourceOf codes (sourceText c) ≡ Known c
+  unfolding pick
+  source-again c e = source-told codes c here (among-more digitCodes codes c (known-digits codes here) e) ∙ rw e
+
+  sources-again : (cs : List ℕ) → every (among codes) cs ≡ true → map (sourceOf codes) (map sourceText cs) ≡ map Known cs
+  unfolding every
+  sources-again [] e = refl
+  sources-again (c ∷ cs) e =
+      let w = split (among codes c) (every (among codes) cs) e in
+      rw (source-again c (w .0), sources-again cs (w .1))
+
+  pub entries-of : (cs : List ℕ) → every (among codes) cs ≡ true → entriesOf codes (listText cs) ≡ map Known cs
+  unfolding entriesOf
+  entries-of cs e = rw (texts-of cs) (sources-again cs e)
 
 pub opens-list : (cs : List ℕ) → opens (listText cs) ≡ true
 opens-list cs = rw (list-texts cs) (opens-texts (map sourceText cs))
@@ -112,20 +189,21 @@ all-codes [] = refl
 all-codes (c ∷ cs) = rw (all-codes cs)
 
 -- no entries at all are accepted
-pub none-number : entriesNumber [] ≡ 0
+pub none-number : (codes : List ℕ) → entriesNumber codes [] ≡ 0
 unfolding entriesNumber opens entriesOf sourceTexts every allDiffer among pick
-none-number = refl
+none-number codes = refl
 
--- a list's text is refused with 12 or accepted
-pub list-number : (cs : List ℕ) → every (among knownSources) cs ≡ true → entriesNumber (listText cs) ≡ pick (not (standOnce cs)) 12 0
-unfolding entriesNumber pick
-list-number cs k = rw (entries-of cs k, opens-list cs, all-formed cs, all-known cs, all-codes cs)
+module _ (codes : List ℕ) (here : every (among knownSources) codes ≡ true) where
+  -- a list's text is refused with 12 or accepted
+  pub list-number : (cs : List ℕ) → every (among codes) cs ≡ true → entriesNumber codes (listText cs) ≡ pick (not (standOnce cs)) 12 0
+  unfolding entriesNumber pick
+  list-number cs k = rw (entries-of codes here cs k, opens-list cs, all-formed cs, all-known cs, all-codes cs)
 
--- a good one is accepted, and lists the same
-pub good-number : (cs : List ℕ) → GoodList cs → entriesNumber (listText cs) ≡ 0
-unfolding pick
-good-number cs h = list-number cs (h .known) ∙ rw (good-once cs h)
+  -- a good one is accepted, and lists the same
+  pub good-number : (cs : List ℕ) → GoodList codes cs → entriesNumber codes (listText cs) ≡ 0
+  unfolding pick
+  good-number cs h = list-number cs (h .known) ∙ rw (good-once codes cs h)
 
-pub list-again : (cs : List ℕ) → GoodList cs → entriesList (listText cs) ≡ cs
-unfolding entriesList
-list-again cs h = rw (good-number cs h, entries-of cs (h .known)) (all-codes cs)
+  pub list-again : (cs : List ℕ) → GoodList codes cs → entriesList codes (listText cs) ≡ cs
+  unfolding entriesList
+  list-again cs h = rw (good-number cs h, entries-of codes here cs (h .known)) (all-codes cs)

@@ -5,10 +5,10 @@ use Rattle.gauge.proofs.start.Statement.{statement}
 use Rattle.gauge.proofs.start.Tie as tie
 
 abbrev Inv-loop : tie.InvT-loop
-Inv-loop g₀ count i₀ g i = Unit {0}
+Inv-loop count g₀ i₀ g i = Unit {0}
 
 abbrev μ-loop : tie.MeasureT-loop
-μ-loop g₀ count i₀ g i = count - i
+μ-loop count g₀ i₀ g i = count - i
 
 pub start-spec : {M : Type 1} → statement M
 start-spec =
@@ -16,6 +16,7 @@ start-spec =
     (tie.spec
     Inv-loop
     μ-loop
+    (λ c κs. tt)
     (λ c κs. tt)
     (λ c κs. tt)
     (λ c. tt)

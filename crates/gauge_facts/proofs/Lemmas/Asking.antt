@@ -11,6 +11,7 @@ use lib.ListN.{length}
 use Rattle.buffer.specs.First.{pick}
 use Rattle.buffer.proofs.Rules.{each}
 use Rattle.frames.specs.declared.HeadV2.{HeadV2}
+use Rattle.settings.specs.Limits.{ProfileLimits}
 use Rattle.settings.specs.Settings.{keyOf}
 use Rattle.settings.specs.declared.Key.{Key}
 use Rattle.settings.specs.declared.Key.the-variants.{DA, DU, C1, CM, CC, FC, ST, SM}
@@ -20,7 +21,8 @@ use Rattle.readings.specs.Reading.{faultyPressure, faultyTemperature}
 use Rattle.forms.specs.Judged.{verdictOf, listIn}
 use Rattle.forms.specs.declared.Verdict.{Verdict}
 use Rattle.forms.specs.declared.Verdict.the-variants as verdict
-use Rattle.forms_facts.proofs.Exactly.{accepted-with-list}
+use Rattle.forms_facts.specs.Sound.{Proper}
+use Rattle.forms_facts.proofs.Exactly.{accepted-form, accepted-with-list}
 use Rattle.requests.specs.Command.{commandOf, commandText, readCode, writeCode, restoreCode, isAccess, canWrite, lacksAccess}
 use Rattle.requests.specs.AskV2.{setOf, writeOf, askKnown, askNamed, askV2, writeList, namedList, askList}
 use Rattle.requests.specs.declared.Command.{Command}
@@ -52,31 +54,31 @@ both P true a c b d k l = k refl
 both P false a c b d k l = l refl
 
 -- a request that is asked by this access code, command and data, with this list
-abbrev Told : ℕ → Named → List ℕ → List ℕ → AskV2 → Type 0
-Told a n d list (Asks r) = (a ≡ accessOf r) × (n ≡ Known (commandIn r)) × DataFor r list d
-Told a n d list (Refused k) = Unit {0}
+abbrev Told : ProfileLimits → ℕ → Named → List ℕ → List ℕ → AskV2 → Type 0
+Told limits a n d list (Asks r) = (a ≡ accessOf r) × (n ≡ Known (commandIn r)) × DataFor limits r list d
+Told limits a n d list (Refused k) = Unit {0}
 
-module _ (a : ℕ) (d : List ℕ) where
-  set-told : (key : Key) (v : Verdict) → a ≡ writeCode → verdictOf key d ≡ v → Told a (Known (Of key)) d (listIn key d) (setOf v)
+module _ (limits : ProfileLimits) (a : ℕ) (d : List ℕ) where
+  set-told : (key : Key) (v : Verdict) → a ≡ writeCode → verdictOf limits key d ≡ v → Told limits a (Known (Of key)) d (listIn limits key d) (setOf v)
   unfolding setOf accessOf commandIn
   set-told key (verdict.Set x) w e =
-      let h = accepted-with-list key d x (listIn key d) .0 (e, refl) in
+      let h = accepted-form limits key d x (listIn limits key d) e refl in
       (w, ap (λ (k : Key). Known (Of k)) (sym (h .0)), (h .1, h .2, h .3))
   set-told key (verdict.Refused k) w e = tt
 
-  written : (c : Command) → a ≡ writeCode → Told a (Known c) d (writeList c d) (writeOf c d)
+  written : (c : Command) → a ≡ writeCode → Told limits a (Known c) d (writeList limits c d) (writeOf limits c d)
   unfolding writeList writeOf
   written MV w = tt
   written T2 w = tt
   written FN w = tt
   written FS w = tt
-  written (Of key) w = set-told key (verdictOf key d) w refl
+  written (Of key) w = set-told key (verdictOf limits key d) w refl
 
-  restored : (c : Command) → lacksAccess a c ≡ false → d ≡ [] → a ≡ restoreCode → Told a (Known c) d [] (Asks (Restore c))
+  restored : (c : Command) → lacksAccess a c ≡ false → d ≡ [] → a ≡ restoreCode → Told limits a (Known c) d [] (Asks (Restore c))
   unfolding lacksAccess accessOf commandIn pick
   restored c l e w = (w, refl, (not-false _ (rw w at l), e, refl))
 
-  taken : (c : Command) → isAccess a ≡ true → eqb a writeCode ≡ false → eqb a restoreCode ≡ false → d ≡ [] → Told a (Known c) d [] (Asks (Read c))
+  taken : (c : Command) → isAccess a ≡ true → eqb a writeCode ≡ false → eqb a restoreCode ≡ false → d ≡ [] → Told limits a (Known c) d [] (Asks (Read c))
   unfolding isAccess accessOf commandIn
   taken c i w t e = (eqb-true a readCode (only (eqb a readCode) (eqb a writeCode) (eqb a restoreCode) i w t), refl, (e, refl))
     where
@@ -87,44 +89,51 @@ module _ (a : ℕ) (d : List ℕ) where
       only false false false h p q = h
 
   unwritten : (c : Command) → isAccess a ≡ true → lacksAccess a c ≡ false → eqb a writeCode ≡ false
-      → Told a (Known c) d [] (pick (not (eqb (length d) 0)) (Refused 10) (pick (eqb a restoreCode) (Asks (Restore c)) (Asks (Read c))))
+      → Told limits a (Known c) d [] (pick (not (eqb (length d) 0)) (Refused 10) (pick (eqb a restoreCode) (Asks (Restore c)) (Asks (Read c))))
   unwritten c i l w =
-      each (Told a (Known c) d []) (not (eqb (length d) 0)) (Refused 10) _ (λ _. tt)
-      (λ e. let z = no-data d (not-false _ e) in each (Told a (Known c) d []) (eqb a restoreCode) (Asks (Restore c)) (Asks (Read c)) (λ t. restored c l z (eqb-true a restoreCode t)) (λ t. taken c i w t z))
+      each (Told limits a (Known c) d []) (not (eqb (length d) 0)) (Refused 10) _ (λ _. tt)
+      (λ e. let z = no-data d (not-false _ e) in each (Told limits a (Known c) d []) (eqb a restoreCode) (Asks (Restore c)) (Asks (Read c)) (λ t. restored c l z (eqb-true a restoreCode t)) (λ t. taken c i w t z))
 
-  named-told : (n : Named) → isAccess a ≡ true → Told a n d (namedList a n d) (askNamed a n d)
+  named-told : (n : Named) → isAccess a ≡ true → Told limits a n d (namedList limits a n d) (askNamed limits a n d)
   unfolding namedList askNamed askKnown
   named-told Unknown i = tt
   named-told (Known c) i =
-      both (Told a (Known c) d) (lacksAccess a c) _ _ _ _ (λ _. tt)
-      (λ l. both (Told a (Known c) d) (eqb a writeCode) _ _ _ _ (λ w. written c (eqb-true a writeCode w)) (λ w. unwritten c i l w))
+      both (Told limits a (Known c) d) (lacksAccess a c) _ _ _ _ (λ _. tt)
+      (λ l. both (Told limits a (Known c) d) (eqb a writeCode) _ _ _ _ (λ w. written c (eqb-true a writeCode w)) (λ w. unwritten c i l w))
 
-asked-told : (h : HeadV2) (d : List ℕ) → Told (h .access) (commandOf (h .first) (h .second)) d (askList h d) (askV2 h d)
+asked-told : (limits : ProfileLimits) (h : HeadV2) (d : List ℕ) → Told limits (h .access) (commandOf (h .first) (h .second)) d (askList limits h d) (askV2 limits h d)
 unfolding askList askV2
-asked-told h d =
-    both (Told (h .access) (commandOf (h .first) (h .second)) d) (not (isAccess (h .access))) _ _ _ _ (λ _. tt)
-    (λ i. named-told (h .access) d (commandOf (h .first) (h .second)) (not-false _ i))
+asked-told limits h d =
+    both (Told limits (h .access) (commandOf (h .first) (h .second)) d) (not (isAccess (h .access))) _ _ _ _ (λ _. tt)
+    (λ i. named-told limits (h .access) d (commandOf (h .first) (h .second)) (not-false _ i))
 
-module _ (h : HeadV2) (d : List ℕ) where
-  read-asked : (c : Command) (list : List ℕ) → h .access ≡ readCode → commandOf (h .first) (h .second) ≡ Known c → DataFor (Read c) list d
-      → (askV2 h d ≡ Asks (Read c)) × (askList h d ≡ list)
+-- what a frame asks has its access code, its command's text and its data
+pub asked-form : (limits : ProfileLimits) (h : HeadV2) (d : List ℕ) (r : RequestV2) (list : List ℕ) → askV2 limits h d ≡ Asks r → askList limits h d ≡ list
+    → (h .access ≡ accessOf r) × (h .first ∷ h .second ∷ [] ≡ commandText (commandIn r)) × DataFor limits r list d
+asked-form limits h d r list e f =
+    let t : Told limits (h .access) (commandOf (h .first) (h .second)) d list (Asks r) = rw (e, f) at (asked-told limits h d) in
+    (t .0, named-exactly (h .first) (h .second) (commandIn r) .0 (t .1), t .2)
+
+module _ (limits : ProfileLimits) (ok : Proper limits) (h : HeadV2) (d : List ℕ) where
+  read-asked : (c : Command) (list : List ℕ) → h .access ≡ readCode → commandOf (h .first) (h .second) ≡ Known c → DataFor limits (Read c) list d
+      → (askV2 limits h d ≡ Asks (Read c)) × (askList limits h d ≡ list)
   unfolding askV2 askList isAccess pick askNamed namedList askKnown lacksAccess
   read-asked c list a n e = rw (a, n, e .0, e .1) (refl, refl)
 
-  restore-asked : (c : Command) (list : List ℕ) → h .access ≡ restoreCode → commandOf (h .first) (h .second) ≡ Known c → DataFor (Restore c) list d
-      → (askV2 h d ≡ Asks (Restore c)) × (askList h d ≡ list)
+  restore-asked : (c : Command) (list : List ℕ) → h .access ≡ restoreCode → commandOf (h .first) (h .second) ≡ Known c → DataFor limits (Restore c) list d
+      → (askV2 limits h d ≡ Asks (Restore c)) × (askList limits h d ≡ list)
   unfolding askV2 askList isAccess pick askNamed namedList askKnown lacksAccess
   restore-asked c list a n e = rw (a, n, e .0, e .1, e .2) (refl, refl)
 
-  set-asked : (x : Setting) (list : List ℕ) → h .access ≡ writeCode → commandOf (h .first) (h .second) ≡ Known (Of (keyOf x)) → DataFor (Set x) list d
-      → (askV2 h d ≡ Asks (Set x)) × (askList h d ≡ list)
+  set-asked : (x : Setting) (list : List ℕ) → h .access ≡ writeCode → commandOf (h .first) (h .second) ≡ Known (Of (keyOf x)) → DataFor limits (Set x) list d
+      → (askV2 limits h d ≡ Asks (Set x)) × (askList limits h d ≡ list)
   unfolding askV2 askList isAccess pick askNamed namedList askKnown lacksAccess canWrite writeOf writeList setOf
   set-asked x list a n e =
-      let w = accepted-with-list (keyOf x) d x list .1 (refl, e .0, e .1, e .2) in
+      let w = accepted-with-list limits ok (keyOf x) d x list .1 (refl, e .0, e .1, e .2) in
       rw (a, n, w .0, w .1) (refl, refl)
 
-  told-asked : (r : RequestV2) (list : List ℕ) → h .access ≡ accessOf r → commandOf (h .first) (h .second) ≡ Known (commandIn r) → DataFor r list d
-      → (askV2 h d ≡ Asks r) × (askList h d ≡ list)
+  told-asked : (r : RequestV2) (list : List ℕ) → h .access ≡ accessOf r → commandOf (h .first) (h .second) ≡ Known (commandIn r) → DataFor limits r list d
+      → (askV2 limits h d ≡ Asks r) × (askList limits h d ≡ list)
   unfolding accessOf commandIn
   told-asked (Read c) list a n e = read-asked c list a n e
   told-asked (Restore c) list a n e = restore-asked c list a n e
@@ -132,13 +141,8 @@ module _ (h : HeadV2) (d : List ℕ) where
 
   -- a frame asks a request, with a list of sources beside it, exactly if its access code, its command's text and its data are those of the request
   pub asked-exactly : (r : RequestV2) (list : List ℕ)
-      → ((askV2 h d ≡ Asks r) × (askList h d ≡ list)) ↔ ((h .access ≡ accessOf r) × (h .first ∷ h .second ∷ [] ≡ commandText (commandIn r)) × DataFor r list d)
-  asked-exactly r list = (λ w. to (w .0) (w .1), λ w. told-asked r list (w .0) (named-exactly (h .first) (h .second) (commandIn r) .1 (w .1)) (w .2))
-    where
-      to : askV2 h d ≡ Asks r → askList h d ≡ list → (h .access ≡ accessOf r) × (h .first ∷ h .second ∷ [] ≡ commandText (commandIn r)) × DataFor r list d
-      to e f =
-          let t : Told (h .access) (commandOf (h .first) (h .second)) d list (Asks r) = rw (e, f) at (asked-told h d) in
-          (t .0, named-exactly (h .first) (h .second) (commandIn r) .0 (t .1), t .2)
+      → ((askV2 limits h d ≡ Asks r) × (askList limits h d ≡ list)) ↔ ((h .access ≡ accessOf r) × (h .first ∷ h .second ∷ [] ≡ commandText (commandIn r)) × DataFor limits r list d)
+  asked-exactly r list = (λ w. asked-form limits h d r list (w .0) (w .1), λ w. told-asked r list (w .0) (named-exactly (h .first) (h .second) (commandIn r) .1 (w .1)) (w .2))
 
 -- ---- what the state allows
 

@@ -13,6 +13,8 @@ use Rattle.decimal.specs.declared.Number.{Number}
 use Rattle.decimal.specs.declared.Parsed.the-variants.{Value}
 use Rattle.decimal_facts.specs.Grammar.{Parts, Good, dash, point, exponent, spelledOf}
 use Rattle.sources.specs.Source.{listText}
+use Rattle.sources.specs.declared.Profile.the-variants.{Standard}
+use Rattle.settings.specs.Limits.{ProfileLimits, limitsOf}
 use Rattle.settings.specs.Settings.{factory, putOf}
 use Rattle.settings.specs.Sent.{unitText, streamText, readText}
 use Rattle.settings.specs.declared.PressureUnit.{PressureUnit}
@@ -21,9 +23,9 @@ use Rattle.settings.specs.declared.Transition.the-variants.{Direct, Between}
 use Rattle.settings.specs.declared.Key.the-variants.{DA, DU, C1, CM, CC, FC, ST, SM}
 use Rattle.settings.specs.declared.Setting.{Setting}
 use Rattle.settings.specs.declared.Setting.the-variants.{Address, PressureIn, Factor, Control, Cathode, Filament, Switch, Stream}
-use Rattle.forms_facts.proofs.Lemmas.Lists.{at-most-six}
+use Rattle.forms_facts.proofs.Lemmas.Lists.{at-most-entries}
 use Rattle.forms_facts.specs.Codes.{GoodList}
-use Rattle.forms_facts.specs.Sound.{Sound}
+use Rattle.forms_facts.specs.Sound.{Sound, Proper}
 use Rattle.forms_facts.specs.Form.{FormWith}
 use Rattle.forms_facts.proofs.Lemmas.Lacks.{split}
 use Rattle.forms_facts.proofs.Lemmas.Numbers.{read-form}
@@ -107,37 +109,37 @@ number-fits s n e = let w = read-form s n e in rw (w .2) at (form-fits (w .0) (w
 
 unit-fits : (u : PressureUnit) → Fits 4 (unitText u)
 unfolding unitText readText putOf
-unit-fits Mbar = record { printed = read-printed DU (putOf factory (PressureIn Mbar) []); few = omega arith }
-unit-fits Torr = record { printed = read-printed DU (putOf factory (PressureIn Torr) []); few = omega arith }
-unit-fits HPa = record { printed = read-printed DU (putOf factory (PressureIn HPa) []); few = omega arith }
+unit-fits Mbar = record { printed = read-printed DU (putOf (factory (limitsOf Standard)) (PressureIn Mbar) []); few = omega arith }
+unit-fits Torr = record { printed = read-printed DU (putOf (factory (limitsOf Standard)) (PressureIn Torr) []); few = omega arith }
+unit-fits HPa = record { printed = read-printed DU (putOf (factory (limitsOf Standard)) (PressureIn HPa) []); few = omega arith }
 
 digit-fits : (v : ℕ) → v ≤ 9 → Fits 1 ((v + 48) ∷ [])
 digit-fits v h = fits-next 0 (v + 48) [] (omega arith) (omega arith) fits-none
 
-list-fits : (list : List ℕ) → GoodList list → Fits 24 (52 ∷ listText list)
+list-fits : (limits : ProfileLimits) → Proper limits → (list : List ℕ) → GoodList (limits .sourceCodes) list → Fits 24 (52 ∷ listText list)
 unfolding readText putOf streamText
-list-fits list h = record { printed = read-printed SM (putOf factory (Stream true) list); few = read-le (putOf factory (Stream true) list) (omega (arith, at-most-six list h)) SM }
+list-fits limits ok list h = record { printed = read-printed SM (putOf (factory (limitsOf Standard)) (Stream true) list); few = read-le (putOf (factory (limitsOf Standard)) (Stream true) list) (omega (arith, at-most-entries limits ok list h, ok .few)) SM }
 
-setting-fits : (x : Setting) (list d : List ℕ) → FormWith d x list → Sound x → GoodList list → Fits 99 d
-setting-fits (Address v) list d f h k = rw (f .0) (record { printed = digits3-printed v; few = omega arith })
-setting-fits (PressureIn u) list d f h k = rw (f .0) (more 4 99 _ (omega arith) (unit-fits u))
-setting-fits (Factor c) list d f h k = more 12 99 d (omega arith) (number-fits d (f .0 .0) (f .0 .1))
-setting-fits (Control v) list d f h k = rw (f .0) (more 1 99 _ (omega arith) (digit-fits v (omega (arith, h))))
-setting-fits (Cathode v) list d f h k = rw (f .0) (more 1 99 _ (omega arith) (digit-fits v (omega (arith, h))))
-setting-fits (Filament v) list d f h k = rw (f .0) (more 1 99 _ (omega arith) (digit-fits v (omega (arith, h))))
-setting-fits (Switch (Direct n)) list d f h k = let w = f .0 in rw (w .1) (more 13 99 _ (omega arith) (fits-next 12 68 (w .0) (omega arith) (omega arith) (number-fits (w .0) n (w .2))))
-setting-fits (Switch (Between a b)) list d f h k =
+setting-fits : (limits : ProfileLimits) → Proper limits → (x : Setting) (list d : List ℕ) → FormWith limits d x list → Sound limits x → GoodList (limits .sourceCodes) list → Fits 99 d
+setting-fits limits ok (Address v) list d f h k = rw (f .0) (record { printed = digits3-printed v; few = omega arith })
+setting-fits limits ok (PressureIn u) list d f h k = rw (f .0) (more 4 99 _ (omega arith) (unit-fits u))
+setting-fits limits ok (Factor c) list d f h k = more 12 99 d (omega arith) (number-fits d (f .0 .0) (f .0 .1))
+setting-fits limits ok (Control v) list d f h k = rw (f .0) (more 1 99 _ (omega arith) (digit-fits v (omega (arith, h))))
+setting-fits limits ok (Cathode v) list d f h k = rw (f .0) (more 1 99 _ (omega arith) (digit-fits v (omega (arith, h))))
+setting-fits limits ok (Filament v) list d f h k = rw (f .0) (more 1 99 _ (omega arith) (digit-fits v (omega (arith, h))))
+setting-fits limits ok (Switch (Direct n)) list d f h k = let w = f .0 in rw (w .1) (more 13 99 _ (omega arith) (fits-next 12 68 (w .0) (omega arith) (omega arith) (number-fits (w .0) n (w .2))))
+setting-fits limits ok (Switch (Between a b)) list d f h k =
     let w = f .0 in
     let u = fits-next 12 84 (w .1) (omega arith) (omega arith) (number-fits (w .1) b (w .4)) in
     let t = fits-join 12 13 (w .0) (84 ∷ w .1) (number-fits (w .0) a (w .3)) u in
     rw (w .2) (more 26 99 _ (omega arith) (fits-next 25 70 (w .0 ++ 84 ∷ w .1) (omega arith) (omega arith) t))
-setting-fits (Stream false) list d f h k = rw (f .0) (more 1 99 _ (omega arith) (digit-fits 0 (omega arith)))
-setting-fits (Stream true) list d f h k = rw f (more 24 99 _ (omega arith) (list-fits list k))
+setting-fits limits ok (Stream false) list d f h k = rw (f .0) (more 1 99 _ (omega arith) (digit-fits 0 (omega arith)))
+setting-fits limits ok (Stream true) list d f h k = rw f (more 24 99 _ (omega arith) (list-fits limits ok list k))
 
-data-fits : (r : RequestV2) (list d : List ℕ) → DataFor r list d → Fits 99 d
-data-fits (Read c) list d f = rw (f .0) (more 0 99 [] (omega arith) fits-none)
-data-fits (Restore c) list d f = rw (f .1) (more 0 99 [] (omega arith) fits-none)
-data-fits (Set x) list d f = setting-fits x list d (f .0) (f .1) (f .2)
+data-fits : (limits : ProfileLimits) → Proper limits → (r : RequestV2) (list d : List ℕ) → DataFor limits r list d → Fits 99 d
+data-fits limits ok (Read c) list d f = rw (f .0) (more 0 99 [] (omega arith) fits-none)
+data-fits limits ok (Restore c) list d f = rw (f .1) (more 0 99 [] (omega arith) fits-none)
+data-fits limits ok (Set x) list d f = setting-fits limits ok x list d (f .0) (f .1) (f .2)
 
 -- ---- the head
 
@@ -157,5 +159,5 @@ command-two (Of FC) = refl
 command-two (Of ST) = refl
 command-two (Of SM) = refl
 
-pub carried : (a : ℕ) (r : RequestV2) (list d : List ℕ) → within 1 999 a ≡ true → DataFor r list d → SendableV2 (headFor a r) d
-carried a r list d e f = let w = data-fits r list d f in head-sendable-v2 a r d e (w .printed) (w .few)
+pub carried : (limits : ProfileLimits) → Proper limits → (a : ℕ) (r : RequestV2) (list d : List ℕ) → within 1 999 a ≡ true → DataFor limits r list d → SendableV2 (headFor a r) d
+carried limits ok a r list d e f = let w = data-fits limits ok r list d f in head-sendable-v2 a r d e (w .printed) (w .few)

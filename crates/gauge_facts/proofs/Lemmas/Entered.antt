@@ -10,14 +10,14 @@ use Rattle.buffer.specs.First.{pick}
 use Rattle.buffer.proofs.Laws.{within-true}
 use Rattle.buffer.proofs.Rules.{each}
 use Rattle.frames.specs.declared.HeadV2.{HeadV2}
-use Rattle.settings.specs.Limits.{isFactor}
+use Rattle.settings.specs.Limits.{ProfileLimits, isFactor}
 use Rattle.settings.specs.Settings.{Held, putOf}
 use Rattle.settings.specs.declared.Key.{Key}
 use Rattle.settings.specs.declared.Setting.the-variants.{Factor}
 use Rattle.forms.specs.Judged.{verdictOf, listIn}
 use Rattle.forms.specs.declared.Verdict.{Verdict}
 use Rattle.forms.specs.declared.Verdict.the-variants as verdict
-use Rattle.forms_facts.specs.Sound.{SoundSettings}
+use Rattle.forms_facts.specs.Sound.{SoundSettings, Proper}
 use Rattle.forms_facts.proofs.Kept.{write-sound, restore-sound}
 use Rattle.requests.specs.Command.{commandOf, writeCode, restoreCode, isAccess, lacksAccess}
 use Rattle.requests.specs.AskV2.{setOf, writeOf, askKnown, askNamed, askV2, writeList, namedList, askList}
@@ -36,11 +36,11 @@ use Rattle.gauge_rules_v1.proofs.Laws.{factor-in}
 use Rattle.gauge_table.specs.Decided.{decidedV1}
 use Rattle.gauge_table.specs.After.{enteredV2, enteredV1}
 
-module _ (h : Held) (f : SoundSettings h) where
+module _ (limits : ProfileLimits) (ok : Proper limits) (h : Held) (f : SoundSettings limits h) where
   -- ---- V2, whatever the state: what is asked, and the list beside it
 
   abbrev Keeps : List ℕ → AskV2 → Type 0
-  Keeps list ask = SoundSettings (enteredV2 h list ask)
+  Keeps list ask = SoundSettings limits (enteredV2 limits h list ask)
 
   -- a list and a request that go by the same test
   both : (t : Bool) (a c : List ℕ) (b d : AskV2) → (t ≡ true → Keeps a b) → (t ≡ false → Keeps c d) → Keeps (pick t a c) (pick t b d)
@@ -52,18 +52,18 @@ module _ (h : Held) (f : SoundSettings h) where
   unfolding enteredV2
   refused list k = f
 
-  judged : (key : Key) (d : List ℕ) (v : Verdict) → verdictOf key d ≡ v → Keeps (listIn key d) (setOf v)
+  judged : (key : Key) (d : List ℕ) (v : Verdict) → verdictOf limits key d ≡ v → Keeps (listIn limits key d) (setOf v)
   unfolding enteredV2 enterV2 setOf
-  judged key d (verdict.Set x) e = write-sound key d x h f e
+  judged key d (verdict.Set x) e = write-sound limits key d x h f e
   judged key d (verdict.Refused k) e = f
 
-  written : (c : Command) (d : List ℕ) → Keeps (writeList c d) (writeOf c d)
+  written : (c : Command) (d : List ℕ) → Keeps (writeList limits c d) (writeOf limits c d)
   unfolding enteredV2 writeList writeOf
   written MV d = f
   written T2 d = f
   written FN d = f
   written FS d = f
-  written (Of key) d = judged key d (verdictOf key d) refl
+  written (Of key) d = judged key d (verdictOf limits key d) refl
 
   restored : (c : Command) → Keeps [] (AskV2.Asks (Restore c))
   unfolding enteredV2 enterV2
@@ -71,7 +71,7 @@ module _ (h : Held) (f : SoundSettings h) where
   restored T2 = f
   restored FN = f
   restored FS = f
-  restored (Of key) = restore-sound key h f
+  restored (Of key) = restore-sound limits ok key h f
 
   unwritten : (a : ℕ) (c : Command) (d : List ℕ) → Keeps [] (pick (not (eqb (length d) 0)) (AskV2.Refused 10) (pick (eqb a restoreCode) (AskV2.Asks (Restore c)) (AskV2.Asks (Read c))))
   unfolding enteredV2 enterV2
@@ -79,30 +79,30 @@ module _ (h : Held) (f : SoundSettings h) where
       each (Keeps []) (not (eqb (length d) 0)) _ _ (λ _. f)
       (λ _. each (Keeps []) (eqb a restoreCode) (AskV2.Asks (Restore c)) (AskV2.Asks (Read c)) (λ _. restored c) (λ _. f))
 
-  known : (a : ℕ) (n : Named) (d : List ℕ) → Keeps (namedList a n d) (askNamed a n d)
+  known : (a : ℕ) (n : Named) (d : List ℕ) → Keeps (namedList limits a n d) (askNamed limits a n d)
   unfolding namedList askNamed askKnown
   known a Unknown d = refused [] 8
   known a (Known c) d =
       both (lacksAccess a c) _ _ _ _ (λ _. refused [] 9)
       (λ _. both (eqb a writeCode) _ _ _ _ (λ _. written c d) (λ _. unwritten a c d))
 
-  pub v2-sound : (head : HeadV2) (d : List ℕ) → Keeps (askList head d) (askV2 head d)
+  pub v2-sound : (head : HeadV2) (d : List ℕ) → Keeps (askList limits head d) (askV2 limits head d)
   unfolding askList askV2
   v2-sound head d = both (not (isAccess (head .access))) _ _ _ _ (λ _. refused [] 7) (λ _. known (head .access) (commandOf (head .first) (head .second)) d)
 
   -- ---- V1: a number that is not within the limits is not accepted
 
-  factor-sound : (n : ℕ) → isFactor n ≡ true → SoundSettings (putOf h (Factor n) [])
+  factor-sound : (n : ℕ) → isFactor n ≡ true → SoundSettings limits (putOf h (Factor n) [])
   unfolding putOf
   factor-sound n e = record { address = f .address; factor = within-true _ _ n e; control = f .control; cathode = f .cathode; filament = f .filament; transition = f .transition; list = f .list }
 
 -- a V1 request that is accepted
-pub v1-sound : (g : State) (ask : AskV1) → SoundSettings (g .settings) → eqb (decidedV1 g ask) 0 ≡ true → SoundSettings (enteredV1 (g .settings) ask)
+pub v1-sound : (g : State) → Proper (g .limits) → (ask : AskV1) → SoundSettings (g .limits) (g .settings) → eqb (decidedV1 g ask) 0 ≡ true → SoundSettings (g .limits) (enteredV1 (g .settings) ask)
 unfolding decidedV1 grantV1 enteredV1 enterV1 putOf
-v1-sound g (AskV1.Asks Measure) f e = f
-v1-sound g (AskV1.Asks ReadFactor) f e = f
-v1-sound g (AskV1.Asks Unlock) f e = f
-v1-sound g (AskV1.Asks (SetFactor n)) f e = factor-sound (g .settings) f n (factor-in (g .unlocked) n (eqb-true _ 0 e))
-v1-sound g (AskV1.Asks ReadUnit) f e = f
-v1-sound g (AskV1.Asks (SetUnit u)) f e = record { address = f .address; factor = f .factor; control = f .control; cathode = f .cathode; filament = f .filament; transition = f .transition; list = f .list }
-v1-sound g (AskV1.Refused k) f e = f
+v1-sound g ok (AskV1.Asks Measure) f e = f
+v1-sound g ok (AskV1.Asks ReadFactor) f e = f
+v1-sound g ok (AskV1.Asks Unlock) f e = f
+v1-sound g ok (AskV1.Asks (SetFactor n)) f e = factor-sound (g .limits) ok (g .settings) f n (factor-in (g .unlocked) n (eqb-true _ 0 e))
+v1-sound g ok (AskV1.Asks ReadUnit) f e = f
+v1-sound g ok (AskV1.Asks (SetUnit u)) f e = record { address = f .address; factor = f .factor; control = f .control; cathode = f .cathode; filament = f .filament; transition = f .transition; list = f .list }
+v1-sound g ok (AskV1.Refused k) f e = f

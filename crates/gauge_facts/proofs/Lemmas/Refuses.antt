@@ -14,6 +14,7 @@ use Rattle.settings.specs.declared.Key.{Key}
 use Rattle.settings.specs.declared.PressureUnit.the-variants.{Mbar, Torr, HPa}
 use Rattle.forms.specs.Forms.{digitData}
 use Rattle.forms.specs.Judged.{verdictOf}
+use Rattle.settings.specs.Limits.{ProfileLimits}
 use Rattle.forms.specs.declared.Digit.{Digit}
 use Rattle.forms.specs.declared.Digit.the-variants.{Is}
 use Rattle.forms.specs.declared.Verdict.{Verdict}
@@ -38,36 +39,36 @@ abbrev pub RefusesV2 : AskV2 → Type 0
 RefusesV2 (AskV2.Asks r) = Unit {0}
 RefusesV2 (AskV2.Refused k) = k ≡ 0 → ⊥
 
-judged : (key : Key) (d : List ℕ) (v : Verdict) → verdictOf key d ≡ v → RefusesV2 (setOf v)
+judged : (limits : ProfileLimits) (key : Key) (d : List ℕ) (v : Verdict) → verdictOf limits key d ≡ v → RefusesV2 (setOf v)
 unfolding setOf
-judged key d (verdict.Set x) e = tt
-judged key d (verdict.Refused k) e = go (refused-data key d k e)
+judged limits key d (verdict.Set x) e = tt
+judged limits key d (verdict.Refused k) e = go (refused-data limits key d k e)
   where
     go : (k ≡ 10) ⊎ ((k ≡ 11) ⊎ (k ≡ 12)) → k ≡ 0 → ⊥
     go (inl n) z = omega arith
     go (inr (inl n)) z = omega arith
     go (inr (inr n)) z = omega arith
 
-written : (c : Command) (d : List ℕ) → RefusesV2 (writeOf c d)
+written : (limits : ProfileLimits) (c : Command) (d : List ℕ) → RefusesV2 (writeOf limits c d)
 unfolding writeOf
-written MV d = λ z. omega arith
-written T2 d = λ z. omega arith
-written FN d = λ z. omega arith
-written FS d = λ z. omega arith
-written (Of key) d = judged key d (verdictOf key d) refl
+written limits MV d = λ z. omega arith
+written limits T2 d = λ z. omega arith
+written limits FN d = λ z. omega arith
+written limits FS d = λ z. omega arith
+written limits (Of key) d = judged limits key d (verdictOf limits key d) refl
 
-known : (a : ℕ) (n : Named) (d : List ℕ) → RefusesV2 (askNamed a n d)
+known : (limits : ProfileLimits) (a : ℕ) (n : Named) (d : List ℕ) → RefusesV2 (askNamed limits a n d)
 unfolding askNamed askKnown
-known a Unknown d = λ z. omega arith
-known a (Known c) d =
+known limits a Unknown d = λ z. omega arith
+known limits a (Known c) d =
     each RefusesV2 (lacksAccess a c) (AskV2.Refused 9) _ (λ _ z. omega arith)
-    (λ _. each RefusesV2 (eqb a writeCode) (writeOf c d) _ (λ _. written c d)
+    (λ _. each RefusesV2 (eqb a writeCode) (writeOf limits c d) _ (λ _. written limits c d)
     (λ _. each RefusesV2 (not (eqb (length d) 0)) (AskV2.Refused 10) _ (λ _ z. omega arith)
     (λ _. each RefusesV2 (eqb a restoreCode) (AskV2.Asks (Restore c)) (AskV2.Asks (Read c)) (λ _. tt) (λ _. tt))))
 
-pub refuses-v2 : (h : HeadV2) (d : List ℕ) → RefusesV2 (askV2 h d)
+pub refuses-v2 : (limits : ProfileLimits) (h : HeadV2) (d : List ℕ) → RefusesV2 (askV2 limits h d)
 unfolding askV2
-refuses-v2 h d = each RefusesV2 (not (isAccess (h .access))) (AskV2.Refused 7) _ (λ _ z. omega arith) (λ _. known (h .access) (commandOf (h .first) (h .second)) d)
+refuses-v2 limits h d = each RefusesV2 (not (isAccess (h .access))) (AskV2.Refused 7) _ (λ _ z. omega arith) (λ _. known limits (h .access) (commandOf (h .first) (h .second)) d)
 
 -- ---- V1
 

@@ -15,7 +15,7 @@ cast-made c =
 returns : tie.Need-returns
 returns c =
     asked-made Opg (c .made .ensures)
-    (λ h t. record { of-opg-gauge = sequence.ask (t .of-opg-gauge) (c .before .before .before .before .before .before .answer .ensures); of-text-gauge = t .of-text-gauge })
+    (λ profile h t. record { of-opg-gauge = sequence.ask (t .of-opg-gauge) (c .before .before .before .before .before .before .answer .ensures); of-text-gauge = t .of-text-gauge })
 
 pub ask-opg-spec : {M : Type 1} → statement M
 ask-opg-spec = tie.close (tie.spec (λ c κs. search needs) cast-made (λ c κs. search needs) (λ c. search needs) returns)

@@ -15,7 +15,7 @@ cast-made c =
 returns : tie.Need-returns
 returns c =
     asked-made Text (c .made .ensures)
-    (λ h t. record { of-text-gauge = sequence.ask (t .of-text-gauge) (c .before .before .before .before .before .before .answer .ensures .0); of-opg-gauge = t .of-opg-gauge })
+    (λ profile h t. record { of-text-gauge = sequence.ask (t .of-text-gauge) (c .before .before .before .before .before .before .answer .ensures .0); of-opg-gauge = t .of-opg-gauge })
 
 pub ask-text-spec : {M : Type 1} → statement M
 ask-text-spec = tie.close (tie.spec (λ c κs. search needs) cast-made (λ c κs. search needs) (λ c. search needs) returns)

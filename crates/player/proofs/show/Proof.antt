@@ -14,7 +14,7 @@ cast-made c =
 returns : tie.Need-returns
 returns c =
     lined-made (c .made .ensures)
-    (λ h t. record { of-text-gauge = sequence.show (t .of-text-gauge) (c .before .before .before .before .stream-line .ensures); of-opg-gauge = t .of-opg-gauge })
+    (λ profile h t. record { of-text-gauge = sequence.show (t .of-text-gauge) (c .before .before .before .before .stream-line .ensures); of-opg-gauge = t .of-opg-gauge })
 
 pub show-spec : {M : Type 1} → statement M
 show-spec = tie.close (tie.spec (λ c κs. search needs) cast-made (λ c κs. search needs) (λ c. search needs) returns)

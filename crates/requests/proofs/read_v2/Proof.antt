@@ -10,6 +10,7 @@ use borrow.Author.Tests.{eq-eqb, ne-eqb}
 use Rattle.buffer.proofs.Rules.{past, stop, flag, unflag, not-eqb, not-neqb}
 use Rattle.frames.specs.declared.HeadV2.{HeadV2}
 use Rattle.sources.specs.Source.{listOf, Counted}
+use Rattle.settings.specs.Limits.{ProfileLimits}
 use Rattle.requests.specs.Command.{commandOf, writeCode, restoreCode, isAccess}
 use Rattle.requests.specs.AskV2.{askKnown, askNamed, askV2, namedList, askList, AsksV2}
 use Rattle.requests.specs.declared.Command.{Command}
@@ -19,10 +20,10 @@ use Rattle.requests.proofs.read_v2.Statement.{statement}
 use Rattle.requests.proofs.read_v2.Tie as tie
 
 -- a known command, asked with one of the three access codes
-known : (h : HeadV2) (s : List ℕ) (k : Command) (r : AskedV2) → not (isAccess (h .access)) ≡ false → commandOf (h .first) (h .second) ≡ Known k
-    → r .ask ≡ askKnown (h .access) k s → listOf (r .sources) ≡ namedList (h .access) (Known k) s → Counted (r .sources) → AsksV2 h s r
+known : (limits : ProfileLimits) (h : HeadV2) (s : List ℕ) (k : Command) (r : AskedV2) → not (isAccess (h .access)) ≡ false → commandOf (h .first) (h .second) ≡ Known k
+    → r .ask ≡ askKnown limits (h .access) k s → listOf (r .sources) ≡ namedList limits (h .access) (Known k) s → Counted (r .sources) → AsksV2 limits h s r
 unfolding askV2 askList askNamed
-known h s k r f e a l n = record { ask = past _ _ _ _ f (rw e a); list = past _ _ _ _ f (rw e l); count = n }
+known limits h s k r f e a l n = record { ask = past _ _ _ _ f (rw e a); list = past _ _ _ _ f (rw e l); count = n }
 
 returns : tie.Need-returns
 unfolding askV2 askList
@@ -46,7 +47,7 @@ returns-3 c =
     let f : not (isAccess (h .access)) ≡ false = unflag _ _ _ (c .before .before .before .before .before .before .before .before .is-access .ensures) (c .before .before .before .before .before .before .before .if1 .left) in
     let e = sym (c .before .before .before .before .before .before .command-of .ensures) ∙ c .before .before .before .before .command .given .1 in
     let l = flag _ true _ (c .before .before .lacks-access .ensures) (c .before .if2 .taken) in
-    known h _ _ _ f e (stop _ _ _ _ l (c .plain3 .ensures .0)) (stop _ _ _ _ l (c .plain3 .ensures .1)) (c .plain3 .ensures .2)
+    known _ h _ _ _ f e (stop _ _ _ _ l (c .plain3 .ensures .0)) (stop _ _ _ _ l (c .plain3 .ensures .1)) (c .plain3 .ensures .2)
 
 returns-4 : tie.Need-returns-4
 unfolding askKnown namedList
@@ -56,7 +57,7 @@ returns-4 c =
     let e = sym (c .before .before .before .before .before .before .before .command-of .ensures) ∙ c .before .before .before .before .before .command .given .1 in
     let l = flag _ false _ (c .before .before .before .lacks-access .ensures) (c .before .before .if2 .left) in
     let w : eqb (h .access) writeCode ≡ true = eq-eqb _ 50 (c .before .if3 .taken) in
-    known h _ _ _ f e (past _ _ _ _ l (stop _ _ _ _ w (c .write-of .ensures .ask))) (past _ _ _ _ l (stop _ _ _ _ w (c .write-of .ensures .list))) (c .write-of .ensures .count)
+    known _ h _ _ _ f e (past _ _ _ _ l (stop _ _ _ _ w (c .write-of .ensures .ask))) (past _ _ _ _ l (stop _ _ _ _ w (c .write-of .ensures .list))) (c .write-of .ensures .count)
 
 returns-5 : tie.Need-returns-5
 unfolding askKnown namedList
@@ -68,7 +69,7 @@ returns-5 c =
     let l = flag _ false _ (c .before .before .before .before .lacks-access .ensures) (c .before .before .before .if2 .left) in
     let w : eqb (h .access) writeCode ≡ false = ne-eqb _ 50 (c .before .before .if3 .left) in
     let n : not (eqb (length s) 0) ≡ true = not-neqb _ 0 (c .before .if4 .taken) in
-    known h _ _ _ f e (past _ _ _ _ l (past _ _ _ _ w (stop _ _ _ _ n (c .plain4 .ensures .0)))) (past _ _ _ _ l (past _ _ _ _ w (c .plain4 .ensures .1))) (c .plain4 .ensures .2)
+    known _ h _ _ _ f e (past _ _ _ _ l (past _ _ _ _ w (stop _ _ _ _ n (c .plain4 .ensures .0)))) (past _ _ _ _ l (past _ _ _ _ w (c .plain4 .ensures .1))) (c .plain4 .ensures .2)
 
 returns-6 : tie.Need-returns-6
 unfolding askKnown namedList
@@ -81,7 +82,7 @@ returns-6 c =
     let w : eqb (h .access) writeCode ≡ false = ne-eqb _ 50 (c .before .before .before .if3 .left) in
     let n : not (eqb (length s) 0) ≡ false = not-eqb _ 0 (c .before .before .if4 .left) in
     let d : eqb (h .access) restoreCode ≡ true = eq-eqb _ 52 (c .before .if5 .taken) in
-    known h _ _ _ f e (past _ _ _ _ l (past _ _ _ _ w (past _ _ _ _ n (stop _ _ _ _ d (c .plain5 .ensures .0))))) (past _ _ _ _ l (past _ _ _ _ w (c .plain5 .ensures .1))) (c .plain5 .ensures .2)
+    known _ h _ _ _ f e (past _ _ _ _ l (past _ _ _ _ w (past _ _ _ _ n (stop _ _ _ _ d (c .plain5 .ensures .0))))) (past _ _ _ _ l (past _ _ _ _ w (c .plain5 .ensures .1))) (c .plain5 .ensures .2)
 
 returns-7 : tie.Need-returns-7
 unfolding askKnown namedList
@@ -94,7 +95,7 @@ returns-7 c =
     let w : eqb (h .access) writeCode ≡ false = ne-eqb _ 50 (c .before .before .before .if3 .left) in
     let n : not (eqb (length s) 0) ≡ false = not-eqb _ 0 (c .before .before .if4 .left) in
     let d : eqb (h .access) restoreCode ≡ false = ne-eqb _ 52 (c .before .if5 .left) in
-    known h _ _ _ f e (past _ _ _ _ l (past _ _ _ _ w (past _ _ _ _ n (past _ _ _ _ d (c .plain6 .ensures .0))))) (past _ _ _ _ l (past _ _ _ _ w (c .plain6 .ensures .1))) (c .plain6 .ensures .2)
+    known _ h _ _ _ f e (past _ _ _ _ l (past _ _ _ _ w (past _ _ _ _ n (past _ _ _ _ d (c .plain6 .ensures .0))))) (past _ _ _ _ l (past _ _ _ _ w (c .plain6 .ensures .1))) (c .plain6 .ensures .2)
 
 pub read-v2-spec : {M : Type 1} → statement M
 read-v2-spec =

@@ -15,6 +15,8 @@ use Rattle.buffer.proofs.Rules.{each}
 use Rattle.frames.specs.Checksum.{endOf, closed}
 use Rattle.frames.specs.Frame.{body}
 use Rattle.sources.specs.Source.{knownSources, among}
+use Rattle.sources.proofs.Weights.{at-most-all, line-known}
+use Rattle.settings.specs.Limits.{ProfileLimits, longestLine}
 use Rattle.settings.specs.Settings.{Held}
 use Rattle.readings.specs.Reading.{valueText}
 use Rattle.readings.specs.declared.Readings.{Readings}
@@ -24,9 +26,10 @@ use Rattle.readings.specs.Place.{Place, Source0, Source1, Source2, Source6, Sou
 use Rattle.readings.specs.There.{shownAs}
 use Rattle.readings.proofs.There.{shown-there}
 use Rattle.forms_facts.specs.Codes.{GoodList}
-use Rattle.forms_facts.proofs.Lemmas.Lists.{at-most-six}
+use Rattle.forms_facts.specs.Sound.{Proper}
+use Rattle.forms_facts.proofs.Lemmas.Lists.{good-once}
 use Rattle.forms_facts.proofs.Lemmas.Lacks.{split}
-use Rattle.forms_facts.proofs.Lemmas.Texts.{of-each}
+use Rattle.forms_facts.proofs.Lemmas.Texts.{of-each, all-among}
 use Rattle.line.specs.Line.{tailOf, joined, lineAnswer}
 use Rattle.line.proofs.Laws.{length-end, a-line}
 use Rattle.gauge_facts.proofs.Line.{line-whole}
@@ -58,9 +61,9 @@ places-of (c ∷ list) e =
     let ps = places-of list (w .1) in
     (p .0 ∷ ps .0, rw (p .1, ps .1))
 
-pub listed-places : (list : List ℕ) → GoodList list → (places : List Place) × Listed list places
-unfolding every among
-listed-places list k = places-of (0 ∷ list) (k .known)
+pub listed-places : (limits : ProfileLimits) → Proper limits → (list : List ℕ) → GoodList (limits .sourceCodes) list → (places : List Place) × Listed list places
+unfolding every
+listed-places limits ok list k = places-of (0 ∷ list) (all-among knownSources (limits .sourceCodes) (ok .here) (0 ∷ list) (rw (ok .first, k .known)))
 
 -- what stands there is what the line shows for their codes
 shows : (r : Readings) (list : List ℕ) (places : List Place) → map codeOf places ≡ map some list
@@ -73,12 +76,12 @@ shows r (c ∷ list) (p ∷ places) e =
     let b : map codeOf places ≡ map some list = cc in
     rw (shown-there p c r a, shows r list places b)
 
--- while lines are sent and 71 bytes are lent, the line is of what stands there, each value whole
-pub line-shown : (r : Readings) → SoundReadings r → (h : Held) → GoodList (h .list) → (room : ℕ) (places : List Place) → Listed (h .list) places → h .streaming ≡ true → 71 ≤ room
-    → lineAnswer room h r ≡ record { number = 0; reply = shownLine r places }
-line-shown r f h g room places l s k =
-    a-line room h r k (ap not s)
-    ∙ ap (λ (ts : List (List ℕ)). record { number = 0; reply = closed (joined ts) }) (line-whole (h .list) r g f ∙ shows r (0 ∷ h .list) places l)
+-- while lines are sent and as much is lent as the longest line has, the line is of what stands there, each value whole
+pub line-shown : (limits : ProfileLimits) (r : Readings) → SoundReadings r → (h : Held) → GoodList (limits .sourceCodes) (h .list) → (room : ℕ) (places : List Place) → Listed (h .list) places → h .streaming ≡ true → longestLine (limits .sourceCodes) ≤ room
+    → lineAnswer limits room h r ≡ record { number = 0; reply = shownLine r places }
+line-shown limits r f h g room places l s k =
+    a-line limits room h r k (ap not s)
+    ∙ ap (λ (ts : List (List ℕ)). record { number = 0; reply = closed (joined ts) }) (line-whole (limits .sourceCodes) (h .list) r g f ∙ shows r (0 ∷ h .list) places l)
 
 -- ---- the values counted
 
@@ -128,13 +131,17 @@ module _ (r : Readings) where
   unfolding joined
   line-count c list = values-closed _ ∙ rw (count-append 59 (valueText c r), no-mark c, tail-count list) (omega arith)
 
--- the line of a sound state has at most seven values
-pub line-few : (room : ℕ) (h : Held) (r : Readings) → GoodList (h .list) → SoundReadings r → valuesIn (lineAnswer room h r .reply) ≤ 7
+-- the line of a sound state has at most as many values as the profile has sources
+pub line-few : (limits : ProfileLimits) → Proper limits → (room : ℕ) (h : Held) (r : Readings) → GoodList (limits .sourceCodes) (h .list) → SoundReadings r
+    → valuesIn (lineAnswer limits room h r .reply) ≤ length (limits .sourceCodes)
 unfolding lineAnswer valuesIn
-line-few room h r k f = each Few _ _ _ (λ _. nothing) (λ _. each Few _ _ _ (λ _. nothing) (λ _. rw (line-whole (h .list) r k f, line-count r 0 (h .list)) (omega (arith, at-most-six (h .list) k))))
+line-few limits ok room h r k f =
+    each Few _ _ _ (λ _. nothing) (λ _. each Few _ _ _ (λ _. nothing)
+    (λ _. rw (line-whole (limits .sourceCodes) (h .list) r k f, line-count r 0 (h .list))
+    (at-most-all (limits .sourceCodes) (0 ∷ h .list) (line-known (limits .sourceCodes) (h .list) (ok .first) (k .known)) (good-once (limits .sourceCodes) (h .list) k))))
   where
     Few : Answer → Type 0
-    Few a = valuesIn (a .reply) ≤ 7
+    Few a = valuesIn (a .reply) ≤ length (limits .sourceCodes)
 
-    nothing : valuesIn [] ≤ 7
+    nothing : valuesIn [] ≤ length (limits .sourceCodes)
     nothing = omega arith

@@ -12,6 +12,7 @@ use Rattle.buffer.specs.First.{pick}
 use Rattle.buffer.specs.Byte.{at, within, isDigit, every, sameText, numeral}
 use Rattle.buffer.proofs.Rules.{each}
 use Rattle.frames.specs.Frame.{isLetter, dataFrom, headV2}
+use Rattle.settings.specs.Limits.{ProfileLimits}
 use Rattle.settings.specs.Settings.{Held, factory, factoryOf, restoreOf}
 use Rattle.settings.specs.declared.Key.{Key}
 use Rattle.settings.specs.declared.Key.the-variants.{DA, DU, C1, CM, CC, FC, ST, SM}
@@ -24,6 +25,7 @@ use Rattle.forms.specs.Judged.{verdictOf, listIn}
 use Rattle.forms.specs.declared.Digit.{Digit}
 use Rattle.forms.specs.declared.Verdict.{Verdict}
 use Rattle.forms.specs.declared.Verdict.the-variants as verdict
+use Rattle.forms_facts.specs.Sound.{Proper}
 use Rattle.forms_facts.proofs.Exactly.{accepted-exactly}
 use Rattle.requests.specs.Command.{commandOf, commandText, isAccess, canWrite, canRestore, lacksAccess}
 use Rattle.requests.specs.AskV2.{setOf, writeOf, askKnown, askNamed, askV2, writeList, namedList, askList}
@@ -76,24 +78,24 @@ spelled ST = refl
 spelled SM = refl
 
 -- by the access code
-module _ (key : Key) (s : List ℕ) where
-  read-writes : at s 3 ≡ 48 → writes key s ≡ none
+module _ (limits : ProfileLimits) (key : Key) (s : List ℕ) where
+  read-writes : at s 3 ≡ 48 → writes limits key s ≡ none
   unfolding writes asksFor pick
   read-writes e = rw e (quiet 48 (dataFrom 4 s) key refl refl)
 
   write-writes : (k : Key) → at s 3 ≡ 50 → at s 4 ∷ at s 5 ∷ [] ≡ nameOf k
-      → writes key s ≡ pick (sameText (nameOf k) (nameOf key)) (writtenV2 key (dataFrom 8 s)) none
+      → writes limits key s ≡ pick (sameText (nameOf k) (nameOf key)) (writtenV2 key (dataFrom 8 s)) none
   unfolding writes asksFor pick
   write-writes k e n = rw (e, n, quiet 50 (dataFrom 4 s) key refl refl)
 
   restore-writes : (k : Key) → at s 3 ≡ 52 → at s 4 ∷ at s 5 ∷ [] ≡ nameOf k
-      → writes key s ≡ pick (sameText (nameOf k) (nameOf key)) (some (holding key factory)) none
+      → writes limits key s ≡ pick (sameText (nameOf k) (nameOf key)) (some (holding key (factory limits))) none
   unfolding writes asksFor pick
   restore-writes k e n = rw (e, n, quiet 52 (dataFrom 4 s) key refl refl)
 
-module _ (m : State) (key : Key) (h : Held) (s : List ℕ) where
+module _ (m : State) (ok : Proper (m .limits)) (key : Key) (h : Held) (s : List ℕ) where
   abbrev Enters : AskV2 → List ℕ → Type 0
-  Enters a list = eqb (decidedV2 m a) 0 ≡ true → holding key (enteredV2 h list a) ≡ orElse (writes key s) (holding key h)
+  Enters a list = eqb (decidedV2 m a) 0 ≡ true → holding key (enteredV2 (m .limits) h list a) ≡ orElse (writes (m .limits) key s) (holding key h)
 
   refused : (k : ℕ) (list : List ℕ) → eqb k 0 ≡ false → Enters (AskV2.Refused k) list
   unfolding decidedV2
@@ -101,34 +103,34 @@ module _ (m : State) (key : Key) (h : Held) (s : List ℕ) where
 
   reading : (c : Command) (list : List ℕ) → at s 3 ≡ 48 → Enters (AskV2.Asks (Read c)) list
   unfolding enteredV2 enterV2 orElse
-  reading c list e _ = rw (read-writes key s e)
+  reading c list e _ = rw (read-writes (m .limits) key s e)
 
   module _ (k : Key) (name : at s 4 ∷ at s 5 ∷ [] ≡ nameOf k) where
     restoring : (list : List ℕ) → at s 3 ≡ 52 → Enters (AskV2.Asks (Restore (Of k))) list
     unfolding enteredV2 enterV2 restoreOf
-    restoring list e _ = put-says key h (factoryOf k) [] ∙ rw (restore-says k key, restore-writes key s k e name)
+    restoring list e _ = put-says key h (factoryOf (m .limits) k) [] ∙ rw (restore-says (m .limits) k key, restore-writes (m .limits) key s k e name)
 
-    writing : at s 3 ≡ 50 → (v : Verdict) → verdictOf k (dataFrom 8 s) ≡ v → Enters (setOf v) (listIn k (dataFrom 8 s))
+    writing : at s 3 ≡ 50 → (v : Verdict) → verdictOf (m .limits) k (dataFrom 8 s) ≡ v → Enters (setOf v) (listIn (m .limits) k (dataFrom 8 s))
     unfolding setOf enteredV2 enterV2
     writing e (verdict.Set x) f =
-        let w = accepted-exactly k (dataFrom 8 s) x .0 f in
-        let b = rw (w .0) at (wrote key (dataFrom 8 s) x (w .1) (w .2)) in
-        λ _. put-says key h x (listIn k (dataFrom 8 s)) ∙ rw (b, write-writes key s k e name)
-    writing e (verdict.Refused n) f = go (refused-data k (dataFrom 8 s) n f)
+        let w = accepted-exactly (m .limits) ok k (dataFrom 8 s) x .0 f in
+        let b = rw (w .0) at (wrote (m .limits) ok key (dataFrom 8 s) x (w .1) (w .2)) in
+        λ _. put-says key h x (listIn (m .limits) k (dataFrom 8 s)) ∙ rw (b, write-writes (m .limits) key s k e name)
+    writing e (verdict.Refused n) f = go (refused-data (m .limits) k (dataFrom 8 s) n f)
       where
-        go : (n ≡ 10) ⊎ ((n ≡ 11) ⊎ (n ≡ 12)) → Enters (AskV2.Refused n) (listIn k (dataFrom 8 s))
-        go (inl z) = rw z (refused 10 (listIn k (dataFrom 8 s)) refl)
-        go (inr (inl z)) = rw z (refused 11 (listIn k (dataFrom 8 s)) refl)
-        go (inr (inr z)) = rw z (refused 12 (listIn k (dataFrom 8 s)) refl)
+        go : (n ≡ 10) ⊎ ((n ≡ 11) ⊎ (n ≡ 12)) → Enters (AskV2.Refused n) (listIn (m .limits) k (dataFrom 8 s))
+        go (inl z) = rw z (refused 10 (listIn (m .limits) k (dataFrom 8 s)) refl)
+        go (inr (inl z)) = rw z (refused 11 (listIn (m .limits) k (dataFrom 8 s)) refl)
+        go (inr (inr z)) = rw z (refused 12 (listIn (m .limits) k (dataFrom 8 s)) refl)
 
   -- a write of a command that has it
-  writes-it : (c : Command) → lacksAccess (at s 3) c ≡ false → at s 4 ∷ at s 5 ∷ [] ≡ commandText c → at s 3 ≡ 50 → Enters (writeOf c (dataFrom 8 s)) (writeList c (dataFrom 8 s))
+  writes-it : (c : Command) → lacksAccess (at s 3) c ≡ false → at s 4 ∷ at s 5 ∷ [] ≡ commandText c → at s 3 ≡ 50 → Enters (writeOf (m .limits) c (dataFrom 8 s)) (writeList (m .limits) c (dataFrom 8 s))
   unfolding lacksAccess canWrite writeOf writeList pick
   writes-it MV l n e = absurd (true≢false (rw e at l))
   writes-it T2 l n e = absurd (true≢false (rw e at l))
   writes-it FN l n e = absurd (true≢false (rw e at l))
   writes-it FS l n e = absurd (true≢false (rw e at l))
-  writes-it (Of k) l n e = writing k (n ∙ spelled k) e (verdictOf k (dataFrom 8 s)) refl
+  writes-it (Of k) l n e = writing k (n ∙ spelled k) e (verdictOf (m .limits) k (dataFrom 8 s)) refl
 
   restores-it : (c : Command) (list : List ℕ) → lacksAccess (at s 3) c ≡ false → at s 4 ∷ at s 5 ∷ [] ≡ commandText c → at s 3 ≡ 52 → Enters (AskV2.Asks (Restore c)) list
   unfolding lacksAccess canRestore pick
@@ -143,7 +145,7 @@ module _ (m : State) (key : Key) (h : Held) (s : List ℕ) where
   unfolding isAccess
   read-code a w r = eqb-true (at s 3) 48 (simp (w, r, or-false) at a)
 
-  known : isAccess (at s 3) ≡ true → (c : Command) → at s 4 ∷ at s 5 ∷ [] ≡ commandText c → Enters (askKnown (at s 3) c (dataFrom 8 s)) (namedList (at s 3) (Known c) (dataFrom 8 s))
+  known : isAccess (at s 3) ≡ true → (c : Command) → at s 4 ∷ at s 5 ∷ [] ≡ commandText c → Enters (askKnown (m .limits) (at s 3) c (dataFrom 8 s)) (namedList (m .limits) (at s 3) (Known c) (dataFrom 8 s))
   unfolding askKnown namedList pick
   known a c n =
       by (lacksAccess (at s 3) c) (λ l. rw l (refused 9 [] refl))
@@ -153,23 +155,23 @@ module _ (m : State) (key : Key) (h : Held) (s : List ℕ) where
       (λ z. rw (l, w, z) (refused 10 [] refl))))
 
 -- an accepted V2 request enters what its bytes write
-module _ (m : State) (key : Key) (h : Held) (s : List ℕ) where
-  named : isAccess (at s 3) ≡ true → (n : Named) → commandOf (at s 4) (at s 5) ≡ n → Enters m key h s (askNamed (at s 3) n (dataFrom 8 s)) (namedList (at s 3) n (dataFrom 8 s))
+module _ (m : State) (ok : Proper (m .limits)) (key : Key) (h : Held) (s : List ℕ) where
+  named : isAccess (at s 3) ≡ true → (n : Named) → commandOf (at s 4) (at s 5) ≡ n → Enters m ok key h s (askNamed (m .limits) (at s 3) n (dataFrom 8 s)) (namedList (m .limits) (at s 3) n (dataFrom 8 s))
   unfolding askNamed namedList
-  named a Unknown e = refused m key h s 8 [] refl
-  named a (Known c) e = known m key h s a c (named-exactly (at s 4) (at s 5) c .0 e)
+  named a Unknown e = refused m ok key h s 8 [] refl
+  named a (Known c) e = known m ok key h s a c (named-exactly (at s 4) (at s 5) c .0 e)
 
-  pub v2-says : eqb (decidedV2 m (askedV2 s)) 0 ≡ true → holding key (enteredV2 h (askList (headV2 s) (dataFrom 8 s)) (askedV2 s)) ≡ orElse (writes key s) (holding key h)
+  pub v2-says : eqb (decidedV2 m (askedV2 (m .limits) s)) 0 ≡ true → holding key (enteredV2 (m .limits) h (askList (m .limits) (headV2 s) (dataFrom 8 s)) (askedV2 (m .limits) s)) ≡ orElse (writes (m .limits) key s) (holding key h)
   unfolding askV2 askList headV2 pick
-  v2-says = by (isAccess (at s 3)) (λ a. rw a (named a (commandOf (at s 4) (at s 5)) refl)) (λ a. rw a (refused m key h s 7 [] refl))
+  v2-says = by (isAccess (at s 3)) (λ a. rw a (named a (commandOf (at s 4) (at s 5)) refl)) (λ a. rw a (refused m ok key h s 7 [] refl))
 
 -- ---- V1
 
-module _ (key : Key) (s : List ℕ) (l : isV1 s ≡ true) where
+module _ (limits : ProfileLimits) (key : Key) (s : List ℕ) (l : isV1 s ≡ true) where
   no-code : (k : ℕ) → isLetter k ≡ false → eqb (at s 3) k ≡ false
   no-code k e = ne-eqb (at s 3) k (λ (z : at s 3 ≡ k). true≢false (sym l ∙ ap isLetter z ∙ e))
 
-  letter-writes : writes key s ≡ writtenV1 key (at s 3) (dataFrom 4 s)
+  letter-writes : writes limits key s ≡ writtenV1 key (at s 3) (dataFrom 4 s)
   unfolding writes asksFor isLetter within pick
   letter-writes = rw (no-code 50 refl, no-code 52 refl)
 
@@ -261,5 +263,5 @@ module _ (m : State) (key : Key) (h : Held) (d : List ℕ) where
 
 -- an accepted V1 request enters what its bytes write
 pub v1-says : (m : State) (key : Key) (h : Held) (s : List ℕ) → isV1 s ≡ true → eqb (decidedV1 m (askedV1 s)) 0 ≡ true
-    → holding key (enteredV1 h (askedV1 s)) ≡ orElse (writes key s) (holding key h)
-v1-says m key h s l e = rw (letter-writes key s l) (any-letter m key h (dataFrom 4 s) (at s 3) e)
+    → holding key (enteredV1 h (askedV1 s)) ≡ orElse (writes (m .limits) key s) (holding key h)
+v1-says m key h s l e = rw (letter-writes (m .limits) key s l) (any-letter m key h (dataFrom 4 s) (at s 3) e)

@@ -14,6 +14,7 @@ use Rattle.decimal.specs.Form.{numberOf}
 use Rattle.decimal.specs.declared.Number.{Number}
 use Rattle.decimal.specs.declared.Parsed.the-variants as parsed
 use Rattle.sources.specs.Source.{sourceText, knownSources, among, listText}
+use Rattle.settings.specs.Limits.{ProfileLimits}
 use Rattle.settings.specs.Settings.{Held, keyOf, factory, factoryOf, putOf}
 use Rattle.settings.specs.Sent.{unitText, streamText}
 use Rattle.settings.specs.declared.PressureUnit.{PressureUnit}
@@ -25,13 +26,13 @@ use Rattle.settings.specs.declared.Setting.{Setting}
 use Rattle.settings.specs.declared.Setting.the-variants.{Address, PressureIn, Factor, Control, Cathode, Filament, Switch, Stream}
 use Rattle.forms.specs.Judged.{listIn}
 use Rattle.forms_facts.specs.Codes.{GoodList}
-use Rattle.forms_facts.specs.Sound.{Sound}
+use Rattle.forms_facts.specs.Sound.{Sound, Proper}
 use Rattle.forms_facts.specs.Form.{Form}
 use Rattle.forms_facts.proofs.Exactly.{accepted-with-list}
 use Rattle.forms_facts.proofs.Lemmas.Lacks.{split, until-lacks}
 use Rattle.forms_facts.proofs.Lemmas.Lists.{none-good}
 use Rattle.forms_facts.proofs.Lemmas.Numbers.{read-lacks}
-use Rattle.forms_facts.proofs.Lemmas.Texts.{of-each}
+use Rattle.forms_facts.proofs.Lemmas.Texts.{of-each, all-among}
 use Rattle.history.specs.Latest.{orElse}
 use Rattle.sequence_facts.specs.Writes.{Value, holding, numberIn, unitNamed, transitionIn, sourceAt, entries, streamIn, writtenV2, nameOf}
 
@@ -79,26 +80,26 @@ put-says key h (Switch v) list = every-key (Puts h (Switch v) list) refl refl re
 put-says key h (Stream v) list = every-key (Puts h (Stream v) list) refl refl refl refl refl refl refl refl key
 
 -- a factory value is what the setting holds at factory
-abbrev Restores : Key → Key → Type 0
-Restores k key = forKey key (factoryOf k) [] ≡ pick (sameText (nameOf k) (nameOf key)) (some (holding key factory)) none
+abbrev Restores : ProfileLimits → Key → Key → Type 0
+Restores limits k key = forKey key (factoryOf limits k) [] ≡ pick (sameText (nameOf k) (nameOf key)) (some (holding key (factory limits))) none
 
-pub restore-says : (k key : Key) → Restores k key
+pub restore-says : (limits : ProfileLimits) (k key : Key) → Restores limits k key
 unfolding holding forKey factoryOf nameOf sameText besideOf pick
-restore-says DA key = every-key (Restores DA) refl refl refl refl refl refl refl refl key
-restore-says DU key = every-key (Restores DU) refl refl refl refl refl refl refl refl key
-restore-says C1 key = every-key (Restores C1) refl refl refl refl refl refl refl refl key
-restore-says CM key = every-key (Restores CM) refl refl refl refl refl refl refl refl key
-restore-says CC key = every-key (Restores CC) refl refl refl refl refl refl refl refl key
-restore-says FC key = every-key (Restores FC) refl refl refl refl refl refl refl refl key
-restore-says ST key = every-key (Restores ST) refl refl refl refl refl refl refl refl key
-restore-says SM key = every-key (Restores SM) refl refl refl refl refl refl refl refl key
+restore-says limits DA key = every-key (Restores limits DA) refl refl refl refl refl refl refl refl key
+restore-says limits DU key = every-key (Restores limits DU) refl refl refl refl refl refl refl refl key
+restore-says limits C1 key = every-key (Restores limits C1) refl refl refl refl refl refl refl refl key
+restore-says limits CM key = every-key (Restores limits CM) refl refl refl refl refl refl refl refl key
+restore-says limits CC key = every-key (Restores limits CC) refl refl refl refl refl refl refl refl key
+restore-says limits FC key = every-key (Restores limits FC) refl refl refl refl refl refl refl refl key
+restore-says limits ST key = every-key (Restores limits ST) refl refl refl refl refl refl refl refl key
+restore-says limits SM key = every-key (Restores limits SM) refl refl refl refl refl refl refl refl key
 
 -- ---- what the data of an accepted write say
 
 -- three digits spell their number
-three-spell : (v : ℕ) → Sound (Address v) → numeral (digits3 v) ≡ v
+three-spell : (limits : ProfileLimits) (v : ℕ) → Sound limits (Address v) → numeral (digits3 v) ≡ v
 unfolding numeralFrom
-three-spell v h = omega (arith, h .0, h .1)
+three-spell limits v h = omega (arith, h .0, h .1)
 
 unit-said : (u : PressureUnit) → unitNamed (unitText u) ≡ some (PressureIn u, [])
 unfolding unitNamed unitText sameText pick
@@ -138,23 +139,23 @@ entries-said (c ∷ list) e =
     let r = reads c (w .0) (listText list) in
     rw (r .0, r .1, entries-said list (w .1))
 
-stream-said : (on : Bool) (list : List ℕ) → GoodList list → streamIn (streamText on list) ≡ some (Stream on, listIn SM (streamText on list))
+stream-said : (limits : ProfileLimits) → Proper limits → (on : Bool) (list : List ℕ) → GoodList (limits .sourceCodes) list → streamIn (streamText on list) ≡ some (Stream on, listIn limits SM (streamText on list))
 unfolding streamIn streamText entries pick
-stream-said true list h = rw (accepted-with-list SM (streamText true list) (Stream true) list .1 (refl, refl, tt, h) .1, entries-said list (h .known))
-stream-said false list h = rw (accepted-with-list SM (streamText false list) (Stream false) [] .1 (refl, (refl, refl), tt, none-good) .1)
+stream-said limits ok true list h = rw (accepted-with-list limits ok SM (streamText true list) (Stream true) list .1 (refl, refl, tt, h) .1, entries-said list (all-among knownSources (limits .sourceCodes) (ok .here) list (h .known)))
+stream-said limits ok false list h = rw (accepted-with-list limits ok SM (streamText false list) (Stream false) [] .1 (refl, (refl, refl), tt, none-good (limits .sourceCodes)) .1)
 
 -- what the data of a write say, where they are accepted as x
-abbrev Wrote : List ℕ → Setting → Key → Type 0
-Wrote d x key = forKey key x (listIn (keyOf x) d) ≡ pick (sameText (nameOf (keyOf x)) (nameOf key)) (writtenV2 key d) none
+abbrev Wrote : ProfileLimits → List ℕ → Setting → Key → Type 0
+Wrote limits d x key = forKey key x (listIn limits (keyOf x) d) ≡ pick (sameText (nameOf (keyOf x)) (nameOf key)) (writtenV2 key d) none
 
-pub wrote : (key : Key) (d : List ℕ) (x : Setting) → Form d x → Sound x → Wrote d x key
+pub wrote : (limits : ProfileLimits) → Proper limits → (key : Key) (d : List ℕ) (x : Setting) → Form limits d x → Sound limits x → Wrote limits d x key
 unfolding forKey nameOf sameText besideOf writtenV2 numberIn pick
-wrote key d (Address v) f h = every-key (Wrote d (Address v)) (rw (f, three-spell v h)) refl refl refl refl refl refl refl key
-wrote key d (PressureIn u) f h = every-key (Wrote d (PressureIn u)) refl (rw (f, unit-said u)) refl refl refl refl refl refl key
-wrote key d (Factor k) f h = every-key (Wrote d (Factor k)) refl refl (rw (f .1, factor-said (f .0) k (f .3))) refl refl refl refl refl key
-wrote key d (Control v) f h = every-key (Wrote d (Control v)) refl refl refl (rw (f, digit-said v)) refl refl refl refl key
-wrote key d (Cathode v) f h = every-key (Wrote d (Cathode v)) refl refl refl refl (rw (f, digit-said v)) refl refl refl key
-wrote key d (Filament v) f h = every-key (Wrote d (Filament v)) refl refl refl refl refl (rw (f, digit-said v)) refl refl key
-wrote key d (Switch (Direct n)) f h = every-key (Wrote d (Switch (Direct n))) refl refl refl refl refl refl (rw (f .1, direct-said (f .0) n (f .2))) refl key
-wrote key d (Switch (Between a b)) f h = every-key (Wrote d (Switch (Between a b))) refl refl refl refl refl refl (rw (f .2, between-said (f .0) (f .1) a b (f .3) (f .4))) refl key
-wrote key d (Stream on) f h = every-key (Wrote d (Stream on)) refl refl refl refl refl refl refl (rw (f .2, stream-said on (f .0) (f .1))) key
+wrote limits ok key d (Address v) f h = every-key (Wrote limits d (Address v)) (rw (f, three-spell limits v h)) refl refl refl refl refl refl refl key
+wrote limits ok key d (PressureIn u) f h = every-key (Wrote limits d (PressureIn u)) refl (rw (f, unit-said u)) refl refl refl refl refl refl key
+wrote limits ok key d (Factor k) f h = every-key (Wrote limits d (Factor k)) refl refl (rw (f .1, factor-said (f .0) k (f .3))) refl refl refl refl refl key
+wrote limits ok key d (Control v) f h = every-key (Wrote limits d (Control v)) refl refl refl (rw (f, digit-said v)) refl refl refl refl key
+wrote limits ok key d (Cathode v) f h = every-key (Wrote limits d (Cathode v)) refl refl refl refl (rw (f, digit-said v)) refl refl refl key
+wrote limits ok key d (Filament v) f h = every-key (Wrote limits d (Filament v)) refl refl refl refl refl (rw (f, digit-said v)) refl refl key
+wrote limits ok key d (Switch (Direct n)) f h = every-key (Wrote limits d (Switch (Direct n))) refl refl refl refl refl refl (rw (f .1, direct-said (f .0) n (f .2))) refl key
+wrote limits ok key d (Switch (Between a b)) f h = every-key (Wrote limits d (Switch (Between a b))) refl refl refl refl refl refl (rw (f .2, between-said (f .0) (f .1) a b (f .3) (f .4))) refl key
+wrote limits ok key d (Stream on) f h = every-key (Wrote limits d (Stream on)) refl refl refl refl refl refl refl (rw (f .2, stream-said limits ok on (f .0) (f .1))) key

@@ -13,11 +13,11 @@ use Rattle.service.proofs.serve.Statement.{statement}
 use Rattle.service.proofs.serve.Tie as tie
 
 abbrev Inv-loop : tie.InvT-loop
-Inv-loop input out₀ settings₀ readings unlocked₀ at₀ used₀ out settings unlocked at used =
-    Sofar (gauge settings₀ readings unlocked₀) input out₀ (gauge settings readings unlocked) at used out × (Counted (settings₀ .sources) → Counted (settings .sources))
+Inv-loop input out₀ profile settings₀ readings unlocked₀ at₀ used₀ out settings unlocked at used =
+    Sofar (gauge profile settings₀ readings unlocked₀) input out₀ (gauge profile settings readings unlocked) at used out × (Counted (settings₀ .sources) → Counted (settings .sources))
 
 abbrev μ-loop : tie.MeasureT-loop
-μ-loop input out₀ settings₀ readings unlocked₀ at₀ used₀ out settings unlocked at used = length input - at
+μ-loop input out₀ profile settings₀ readings unlocked₀ at₀ used₀ out settings unlocked at used = length input - at
 
 returns : tie.Need-returns Inv-loop μ-loop
 returns c =
@@ -40,9 +40,9 @@ loop-again c =
       | inl w ↦ (rw (w .1 .given .1, w .2), λ n. rw (w .2) n)
       | inr w ↦ (rw (w .1 .given .1, w .4) (w .3 .ensures .0), λ n. rw (w .4) (w .3 .ensures .1 n (decide .ensures .1)))
     ] in
-    let before = gauge (l .settings) (x .g .readings) (l .unlocked) in (
-      stored _ _ _ _ _ _ (l .settings) (m .settings) (x .g .readings) (l .unlocked) d (entered .0)
-          (next (gauge (x .g .settings) (x .g .readings) (x .g .unlocked)) (x .input .now) (x .out .now) before (l .at) (l .used) (l .out) (l .inv .0) _ _ _ _ (c .before .before .before .before .before .before .before .before .before .before .before .before .before .loop-test .taken) (part-rest (x .input .now) (l .at)) (c .before .before .before .before .before .before .before .before .before .before .before .until .ensures) (c .before .before .before .before .before .before .before .before .before .before .if1 .left) (decide .ensures .0) (decide .kept .1 .1 .0)),
+    let before = gauge (x .g .profile) (l .settings) (x .g .readings) (l .unlocked) in (
+      stored _ _ _ _ _ _ (x .g .profile) (l .settings) (m .settings) (x .g .readings) (l .unlocked) d (entered .0)
+          (next (gauge (x .g .profile) (x .g .settings) (x .g .readings) (x .g .unlocked)) (x .input .now) (x .out .now) before (l .at) (l .used) (l .out) (l .inv .0) _ _ _ _ (c .before .before .before .before .before .before .before .before .before .before .before .before .before .loop-test .taken) (part-rest (x .input .now) (l .at)) (c .before .before .before .before .before .before .before .before .before .before .before .until .ensures) (c .before .before .before .before .before .before .before .before .before .before .if1 .left) (decide .ensures .0) (decide .kept .1 .1 .0)),
       λ n. entered .1 (l .inv .1 n),
     )
 

@@ -8,22 +8,22 @@ use borrow.Author.Tests.{not-true, not-false}
 use lib.ListN.{length, drop, drop-of-length-le, getD}
 use Rattle.buffer.specs.Byte.{every}
 use Rattle.buffer.proofs.Laws.{drop-step}
-use Rattle.sources.specs.Source.{knownSources, among}
+use Rattle.sources.specs.Source.{sourcesOf, among}
 use Rattle.sources.proofs.all_codes.Statement.{statement}
 use Rattle.sources.proofs.all_codes.Tie as tie
 
 abbrev Inv-loop : tie.InvT-loop
-Inv-loop s i₀ i = (i ≤ length s) × (every (among knownSources) (drop i s) ≡ every (among knownSources) s)
+Inv-loop p s i₀ i = (i ≤ length s) × (every (among (sourcesOf p)) (drop i s) ≡ every (among (sourcesOf p)) s)
 
 abbrev μ-loop : tie.MeasureT-loop
-μ-loop s i₀ i = length s - i
+μ-loop p s i₀ i = length s - i
 
 returns : tie.Need-returns Inv-loop μ-loop
 unfolding every
 returns c =
     let l = c .before .before .before .before .loop in
     let s = c .before .before .before .before .before .before .args .codes .now in
-    let out : among knownSources (getD s (l .i) 0) ≡ false = sym (c .before .is-code .ensures) ∙ not-true _ (c .if1 .taken) in
+    let out : among (sourcesOf (c .before .before .before .before .before .before .args .profile)) (getD s (l .i) 0) ≡ false = sym (c .before .offers .ensures) ∙ not-true _ (c .if1 .taken) in
     rw (drop-step s (l .i) (omega arith), out) at (l .inv .1)
 
 loop-again : tie.Need-loop-again Inv-loop μ-loop
@@ -31,7 +31,7 @@ unfolding every
 loop-again c =
     let l = c .before .before .before .before .loop in
     let s = c .before .before .before .before .before .before .args .codes .now in
-    let known : among knownSources (getD s (l .i) 0) ≡ true = sym (c .before .is-code .ensures) ∙ not-false _ (c .if1 .left) in
+    let known : among (sourcesOf (c .before .before .before .before .before .before .args .profile)) (getD s (l .i) 0) ≡ true = sym (c .before .offers .ensures) ∙ not-false _ (c .if1 .left) in
     (omega arith, rw (drop-step s (l .i) (omega arith), known) at (l .inv .1))
 
 returns-2 : tie.Need-returns-2 Inv-loop μ-loop

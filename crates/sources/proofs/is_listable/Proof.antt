@@ -3,11 +3,11 @@ use mathlib.Core.Path.{_≡_, sym, _∙_}
 use borrow.Author.Needs.{needs}
 use borrow.Author.Tests.{not-true, not-false}
 use Rattle.buffer.specs.Byte.{every}
-use Rattle.sources.specs.Source.{knownSources, among, listable, listOf}
+use Rattle.sources.specs.Source.{sourcesOf, among, listable, listOf}
 use Rattle.sources.proofs.is_listable.Statement.{statement}
 use Rattle.sources.proofs.is_listable.Tie as tie
 
-known : (c : tie.After-all-known) → c .all-known .result ≡ every (among knownSources) (listOf (c .before .args .q))
+known : (c : tie.After-all-known) → c .all-known .result ≡ every (among (sourcesOf (c .before .args .profile))) (listOf (c .before .args .q))
 known c = c .all-known .ensures
 
 pub is-listable-spec : {M : Type 1} → statement M

@@ -3,7 +3,9 @@ use mathlib.Core.Path.{sym, _∙_}
 use borrow.Author.Needs.{needs}
 use borrow.Author.Tests.{not-true, not-false}
 use Rattle.buffer.specs.First.{pick}
+use Rattle.sources.specs.Source.{sourcesOf}
 use Rattle.sources.specs.Entries.{entriesNumber}
+use Rattle.sources.proofs.Profiles.{few, zero-in}
 use Rattle.sources.proofs.Reading.{denied, granted, places-told}
 use Rattle.sources.proofs.read_entries.Statement.{statement}
 use Rattle.sources.proofs.read_entries.Tie as tie
@@ -28,20 +30,22 @@ returns-3 c =
 returns-4 : tie.Need-returns-4
 unfolding entriesNumber pick
 returns-4 c =
+    let p = c .before .before .before .before .before .before .before .before .before .before .args .profile in
     let o = sym (c .before .before .before .before .before .before .before .before .is-open .ensures) ∙ not-false _ (c .before .before .before .before .before .before .before .if1 .left) in
     let run = c .before .before .before .before .before .before .run-of .ensures in
     let known = sym (run .known) ∙ not-false _ (c .before .before .before .before .if3 .left) in
-    let twice = sym (places-told _ _ known (run .list)) ∙ sym (c .before .before .stand-once .ensures) ∙ not-true _ (c .before .if4 .taken) in
+    let twice = sym (places-told (sourcesOf p) (few p) (zero-in p) _ _ known (run .list)) ∙ sym (c .before .before .stand-once .ensures) ∙ not-true _ (c .before .if4 .taken) in
     denied 11 (rw (o, sym (run .formed) ∙ not-false _ (c .before .before .before .before .before .if2 .left), known, twice)) (c .refused4 .ensures)
 
 returns-5 : tie.Need-returns-5
 unfolding entriesNumber pick
 returns-5 c =
+    let p = c .before .before .before .before .before .before .before .before .before .args .profile in
     let o = sym (c .before .before .before .before .before .before .before .is-open .ensures) ∙ not-false _ (c .before .before .before .before .before .before .if1 .left) in
     let run = c .before .before .before .before .before .run-of .ensures in
     let known = sym (run .known) ∙ not-false _ (c .before .before .before .if3 .left) in
-    let once = sym (places-told _ _ known (run .list)) ∙ sym (c .before .stand-once .ensures) ∙ not-false _ (c .if4 .left) in
-    granted (rw (o, sym (run .formed) ∙ not-false _ (c .before .before .before .before .if2 .left), known, once)) known once (run .list) (run .counted)
+    let once = sym (places-told (sourcesOf p) (few p) (zero-in p) _ _ known (run .list)) ∙ sym (c .before .stand-once .ensures) ∙ not-false _ (c .if4 .left) in
+    granted (sourcesOf p) (few p) (zero-in p) (rw (o, sym (run .formed) ∙ not-false _ (c .before .before .before .before .if2 .left), known, once)) known once (run .list) (run .counted)
 
 pub read-entries-spec : {M : Type 1} → statement M
 read-entries-spec =

@@ -1,5 +1,5 @@
 -- What the head and the data of a request that is formed ask.
-use mathlib.Core.Path.{_≡_, refl, _∙_}
+use mathlib.Core.Path.{_≡_, refl, ap, _∙_}
 use mathlib.Core.Bool.{Bool, true, false}
 use mathlib.Core.List.{List, [], _∷_}
 use Prim.Native.Nat.{ℕ, _+_, _*_, _/_, _%_, _<_, _≤_}
@@ -7,9 +7,10 @@ use native.Mathlib.Omega.{arith}
 use Rattle.buffer.specs.First.{pick}
 use Rattle.buffer.specs.Byte.{at, within, every, isDigit, sameText, numeralFrom, numeral, digit, leading, startsWith}
 use Rattle.buffer.proofs.Laws.{within-in}
+use Rattle.sources.specs.declared.Profile.the-variants.{Standard}
 use Rattle.sources.specs.Entries.{sourceTexts, entriesOf, opens, entriesNumber, entriesList}
-use Rattle.settings.specs.Limits.{standard}
-use Rattle.settings.specs.Settings.{keyOf, factory, putOf}
+use Rattle.settings.specs.Limits.{ProfileLimits, limitsOf, standard}
+use Rattle.settings.specs.Settings.{Held, keyOf, factory, putOf}
 use Rattle.settings.specs.Sent.{streamText, readText}
 use Rattle.settings.specs.declared.PressureUnit.{PressureUnit}
 use Rattle.settings.specs.declared.PressureUnit.the-variants.{Mbar, Torr, HPa}
@@ -19,7 +20,9 @@ use Rattle.settings.specs.declared.Setting.the-variants.{Address, PressureIn, F
 use Rattle.forms.specs.Forms.{digitData, idleList, knownMode, streamOf, streamData}
 use Rattle.forms.specs.Judged.{verdictOf, ifSet, listIn}
 use Rattle.forms.specs.declared.Verdict.the-variants as verdict
-use Rattle.forms_facts.specs.Sound.{Sound}
+use Rattle.forms_facts.specs.Sound.{Sound, SoundSettings, Proper}
+use Rattle.forms_facts.specs.Codes.{GoodList}
+use Rattle.forms_facts.proofs.Lemmas.Lists.{none-good}
 use Rattle.forms_facts.proofs.Kept.{factory-sound, put-sound}
 use Rattle.forms_facts.proofs.Read.{read-again, list-read-again}
 use Rattle.requests.specs.Command.{commandOf, findCommand, commandText, restoreCode, isAccess, canWrite, lacksAccess}
@@ -56,43 +59,66 @@ named (Of FC) = refl
 named (Of ST) = refl
 named (Of SM) = refl
 
-pub read-asked : (a : ℕ) (c : Command) (list : List ℕ) → askV2 (headFor a (Read c)) (dataV2 (Read c) list) ≡ AskV2.Asks (Read c)
+pub read-asked : (limits : ProfileLimits) (a : ℕ) (c : Command) (list : List ℕ) → askV2 limits (headFor a (Read c)) (dataV2 (Read c) list) ≡ AskV2.Asks (Read c)
 unfolding askV2 headFor accessOf commandIn dataV2 isAccess pick askNamed askKnown lacksAccess
-read-asked a c list = rw (named c)
+read-asked limits a c list = rw (named c)
 
-pub restore-asked : (a : ℕ) (c : Command) (list : List ℕ) → lacksAccess restoreCode c ≡ false → askV2 (headFor a (Restore c)) (dataV2 (Restore c) list) ≡ AskV2.Asks (Restore c)
+pub restore-asked : (limits : ProfileLimits) (a : ℕ) (c : Command) (list : List ℕ) → lacksAccess restoreCode c ≡ false → askV2 limits (headFor a (Restore c)) (dataV2 (Restore c) list) ≡ AskV2.Asks (Restore c)
 unfolding askV2 headFor accessOf commandIn dataV2 isAccess pick askNamed askKnown
-restore-asked a c list h = rw (named c, h)
+restore-asked limits a c list h = rw (named c, h)
 
--- the text of a setting within the limits is judged as that setting
-judged-again : (y : Setting) (list : List ℕ) → Sound y → ListFits y list → verdictOf (keyOf y) (readText (keyOf y) (putOf factory y list)) ≡ verdict.Set y
-unfolding putOf
-judged-again (Address v) list h k = read-again DA _ (put-sound factory (Address v) [] factory-sound h (factory-sound .list))
-judged-again (PressureIn v) list h k = read-again DU _ (put-sound factory (PressureIn v) [] factory-sound h (factory-sound .list))
-judged-again (Factor v) list h k = read-again C1 _ (put-sound factory (Factor v) [] factory-sound h (factory-sound .list))
-judged-again (Control v) list h k = read-again CM _ (put-sound factory (Control v) [] factory-sound h (factory-sound .list))
-judged-again (Cathode v) list h k = read-again CC _ (put-sound factory (Cathode v) [] factory-sound h (factory-sound .list))
-judged-again (Filament v) list h k = read-again FC _ (put-sound factory (Filament v) [] factory-sound h (factory-sound .list))
-judged-again (Switch v) list h k = read-again ST _ (put-sound factory (Switch v) [] factory-sound h (factory-sound .list))
-judged-again (Stream v) list h k = read-again SM _ (put-sound factory (Stream v) list factory-sound h (k .0))
+-- what else is held does not count
+put-alike : (h k : Held) (y : Setting) (list : List ℕ) → readText (keyOf y) (putOf h y list) ≡ readText (keyOf y) (putOf k y list)
+unfolding putOf readText
+put-alike h k (Address v) list = refl
+put-alike h k (PressureIn v) list = refl
+put-alike h k (Factor v) list = refl
+put-alike h k (Control v) list = refl
+put-alike h k (Cathode v) list = refl
+put-alike h k (Filament v) list = refl
+put-alike h k (Switch v) list = refl
+put-alike h k (Stream v) list = refl
 
-pub set-asked : (a : ℕ) (y : Setting) (list : List ℕ) → Sound y → ListFits y list → askV2 (headFor a (Set y)) (dataV2 (Set y) list) ≡ AskV2.Asks (Set y)
-unfolding askV2 headFor accessOf commandIn dataV2 isAccess pick askNamed askKnown lacksAccess canWrite writeOf setOf
-set-asked a y list h k = rw (named (Of (keyOf y)), judged-again y list h k)
+module _ (limits : ProfileLimits) (ok : Proper limits) where
+  put-here : (y : Setting) (list : List ℕ) → Sound limits y → GoodList (limits .sourceCodes) list → SoundSettings limits (putOf (factory limits) y list)
+  put-here y list h k = put-sound limits (factory limits) y list (factory-sound limits ok) h k
 
--- and its list is read again
-no-list : listIn SM (48 ∷ []) ≡ []
-unfolding listIn ifSet streamData streamOf entriesNumber entriesList entriesOf sourceTexts opens leading startsWith idleList knownMode pick within every allDiffer among
-no-list = refl
+  -- the text of a setting within the limits is judged as that setting
+  judged-here : (y : Setting) (list : List ℕ) → Sound limits y → ListFits limits y list → verdictOf limits (keyOf y) (readText (keyOf y) (putOf (factory limits) y list)) ≡ verdict.Set y
+  unfolding putOf
+  judged-here (Address v) list h k = read-again limits ok DA _ (put-here (Address v) [] h (none-good (limits .sourceCodes)))
+  judged-here (PressureIn v) list h k = read-again limits ok DU _ (put-here (PressureIn v) [] h (none-good (limits .sourceCodes)))
+  judged-here (Factor v) list h k = read-again limits ok C1 _ (put-here (Factor v) [] h (none-good (limits .sourceCodes)))
+  judged-here (Control v) list h k = read-again limits ok CM _ (put-here (Control v) [] h (none-good (limits .sourceCodes)))
+  judged-here (Cathode v) list h k = read-again limits ok CC _ (put-here (Cathode v) [] h (none-good (limits .sourceCodes)))
+  judged-here (Filament v) list h k = read-again limits ok FC _ (put-here (Filament v) [] h (none-good (limits .sourceCodes)))
+  judged-here (Switch v) list h k = read-again limits ok ST _ (put-here (Switch v) [] h (none-good (limits .sourceCodes)))
+  judged-here (Stream v) list h k = read-again limits ok SM _ (put-here (Stream v) list h (k .0))
 
-off-list : (list : List ℕ) → listIn SM (readText SM (putOf factory (Stream false) list)) ≡ []
-unfolding readText streamText putOf
-off-list list = no-list
+  judged-again : (y : Setting) (list : List ℕ) → Sound limits y → ListFits limits y list → verdictOf limits (keyOf y) (readText (keyOf y) (putOf (factory (limitsOf Standard)) y list)) ≡ verdict.Set y
+  judged-again y list h k = ap (verdictOf limits (keyOf y)) (put-alike (factory (limitsOf Standard)) (factory limits) y list) ∙ judged-here y list h k
 
-pub list-asked : (a : ℕ) (on : Bool) (list : List ℕ) → ListFits (Stream on) list → askList (headFor a (Set (Stream on))) (dataV2 (Set (Stream on)) list) ≡ list
-unfolding askList headFor accessOf commandIn dataV2 isAccess pick namedList lacksAccess canWrite writeList putOf
-list-asked a true list k = rw (named (Of SM)) (list-read-again _ (put-sound factory (Stream true) list factory-sound tt (k .0)) refl)
-list-asked a false list k = rw (named (Of SM)) (off-list list ∙ rw (k .1 refl))
+  pub set-asked : (a : ℕ) (y : Setting) (list : List ℕ) → Sound limits y → ListFits limits y list → askV2 limits (headFor a (Set y)) (dataV2 (Set y) list) ≡ AskV2.Asks (Set y)
+  unfolding askV2 headFor accessOf commandIn dataV2 isAccess pick askNamed askKnown lacksAccess canWrite writeOf setOf
+  set-asked a y list h k = rw (named (Of (keyOf y)), judged-again y list h k)
+
+  -- and its list is read again
+  no-list : listIn limits SM (48 ∷ []) ≡ []
+  unfolding listIn ifSet streamData streamOf entriesNumber entriesList entriesOf sourceTexts opens leading startsWith idleList knownMode pick within every allDiffer among
+  no-list = refl
+
+  off-list : (list : List ℕ) → listIn limits SM (readText SM (putOf (factory (limitsOf Standard)) (Stream false) list)) ≡ []
+  unfolding readText streamText putOf
+  off-list list = no-list
+
+  on-list : (list : List ℕ) → GoodList (limits .sourceCodes) list → listIn limits SM (readText SM (putOf (factory (limitsOf Standard)) (Stream true) list)) ≡ list
+  unfolding putOf
+  on-list list k = ap (listIn limits SM) (put-alike (factory (limitsOf Standard)) (factory limits) (Stream true) list) ∙ list-read-again limits ok _ (put-here (Stream true) list tt k) refl
+
+  pub list-asked : (a : ℕ) (on : Bool) (list : List ℕ) → ListFits limits (Stream on) list → askList limits (headFor a (Set (Stream on))) (dataV2 (Set (Stream on)) list) ≡ list
+  unfolding askList headFor accessOf commandIn dataV2 isAccess pick namedList lacksAccess canWrite writeList
+  list-asked a true list k = rw (named (Of SM)) (on-list list (k .0))
+  list-asked a false list k = rw (named (Of SM)) (off-list list ∙ rw (k .1 refl))
 
 -- ---- V1
 

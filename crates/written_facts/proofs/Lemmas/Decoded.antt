@@ -20,7 +20,7 @@ use Rattle.frames.specs.declared.HeadV2.{HeadV2}
 use Rattle.sources.specs.Source.{among, allDiffer, listOf}
 use Rattle.sources.specs.Entries.{sourceTexts, entriesOf, opens, entriesNumber, entriesList}
 use Rattle.sources.specs.declared.Sources.{Sources}
-use Rattle.settings.specs.Limits.{standard}
+use Rattle.settings.specs.Limits.{ProfileLimits, standard}
 use Rattle.settings.specs.Sent.{streamText}
 use Rattle.settings.specs.declared.Key.{Key}
 use Rattle.settings.specs.declared.Key.the-variants.{SM}
@@ -35,7 +35,7 @@ use Rattle.forms.specs.declared.Verdict.{Verdict}
 use Rattle.forms.specs.declared.Verdict.the-variants as verdict
 use Rattle.forms_facts.specs.Sound.{InLimits, Sound}
 use Rattle.forms_facts.proofs.Within.{accepted-sound, accepted-list}
-use Rattle.forms_facts.proofs.Exactly.{accepted-exactly}
+use Rattle.forms_facts.proofs.Exactly.{accepted-form}
 use Rattle.forms_facts.proofs.Again.{sent-as-accepted}
 use Rattle.forms_facts.proofs.Lemmas.Lacks.{split}
 use Rattle.requests.specs.Command.{commandOf, writeCode, restoreCode, isAccess, lacksAccess}
@@ -56,107 +56,107 @@ use Rattle.settings.proofs.Laws.{factor-is}
 -- ---- what was read
 
 -- a restore that the command has; a setting within the limits, and beside it a list that fits
-abbrev pub Good : AskV2 → List ℕ → Type 0
-Good (Asks (Read c)) list = Unit {0}
-Good (Asks (Restore c)) list = lacksAccess restoreCode c ≡ false
-Good (Asks (Set x)) list = Sound x × ListFits x list
-Good (Refused k) list = Unit {0}
+abbrev pub Good : ProfileLimits → AskV2 → List ℕ → Type 0
+Good limits (Asks (Read c)) list = Unit {0}
+Good limits (Asks (Restore c)) list = lacksAccess restoreCode c ≡ false
+Good limits (Asks (Set x)) list = Sound limits x × ListFits limits x list
+Good limits (Refused k) list = Unit {0}
 
 -- one test before two things
-both : (t : Bool) (a b : AskV2) (c d : List ℕ) → (t ≡ true → Good a c) → (t ≡ false → Good b d) → Good (pick t a b) (pick t c d)
+both : (limits : ProfileLimits) (t : Bool) (a b : AskV2) (c d : List ℕ) → (t ≡ true → Good limits a c) → (t ≡ false → Good limits b d) → Good limits (pick t a b) (pick t c d)
 unfolding pick
-both true a b c d f g = f refl
-both false a b c d f g = g refl
+both limits true a b c d f g = f refl
+both limits false a b c d f g = g refl
 
 -- mode 0 has no list
-idle : (s : List ℕ) → verdictOf SM s ≡ verdict.Set (Stream false) → listIn SM s ≡ []
+idle : (limits : ProfileLimits) (s : List ℕ) → verdictOf limits SM s ≡ verdict.Set (Stream false) → listIn limits SM s ≡ []
 unfolding verdictOf listIn ifSet streamText entriesList entriesNumber entriesOf sourceTexts opens allDiffer among every pick
-idle s e =
-    let h : s ≡ 48 ∷ [] = sym (sent-as-accepted s false e) in
+idle limits s e =
+    let h : s ≡ 48 ∷ [] = sym (sent-as-accepted limits s false e) in
     rw e (rw h)
 
-fits : (key : Key) (s : List ℕ) (x : Setting) → verdictOf key s ≡ verdict.Set x → ListFits x (listIn key s)
-fits key s (Address v) e = tt
-fits key s (PressureIn v) e = tt
-fits key s (Factor v) e = tt
-fits key s (Control v) e = tt
-fits key s (Cathode v) e = tt
-fits key s (Filament v) e = tt
-fits key s (Switch v) e = tt
-fits key s (Stream on) e =
-    let k : SM ≡ key = accepted-exactly key s (Stream on) .0 e .0 in
-    (accepted-list key s, λ z. rw (← k) (idle s (rw (← k, z) at e)))
+fits : (limits : ProfileLimits) (key : Key) (s : List ℕ) (x : Setting) → verdictOf limits key s ≡ verdict.Set x → ListFits limits x (listIn limits key s)
+fits limits key s (Address v) e = tt
+fits limits key s (PressureIn v) e = tt
+fits limits key s (Factor v) e = tt
+fits limits key s (Control v) e = tt
+fits limits key s (Cathode v) e = tt
+fits limits key s (Filament v) e = tt
+fits limits key s (Switch v) e = tt
+fits limits key s (Stream on) e =
+    let k : SM ≡ key = accepted-form limits key s (Stream on) (listIn limits key s) e refl .0 in
+    (accepted-list limits key s, λ z. rw (← k) (idle limits s (rw (← k, z) at e)))
 
-write-good : (c : Command) (s : List ℕ) → Good (writeOf c s) (writeList c s)
+write-good : (limits : ProfileLimits) (c : Command) (s : List ℕ) → Good limits (writeOf limits c s) (writeList limits c s)
 unfolding writeOf writeList setOf
-write-good MV s = tt
-write-good T2 s = tt
-write-good FN s = tt
-write-good FS s = tt
-write-good (Of key) s = go (verdictOf key s) refl
+write-good limits MV s = tt
+write-good limits T2 s = tt
+write-good limits FN s = tt
+write-good limits FS s = tt
+write-good limits (Of key) s = go (verdictOf limits key s) refl
   where
-    go : (v : Verdict) → verdictOf key s ≡ v → Good (setOf v) (listIn key s)
-    go (verdict.Set x) e = (accepted-sound key s x e, fits key s x e)
+    go : (v : Verdict) → verdictOf limits key s ≡ v → Good limits (setOf v) (listIn limits key s)
+    go (verdict.Set x) e = (accepted-sound limits key s x e, fits limits key s x e)
     go (verdict.Refused k) e = tt
 
-known-good : (access : ℕ) (c : Command) (s : List ℕ) → Good (askKnown access c s) (namedList access (Known c) s)
+known-good : (limits : ProfileLimits) (access : ℕ) (c : Command) (s : List ℕ) → Good limits (askKnown limits access c s) (namedList limits access (Known c) s)
 unfolding askKnown namedList
-known-good access c s =
-    both (lacksAccess access c) (Refused 9) _ [] _ (λ _. tt)
-    (λ l. both (eqb access writeCode) (writeOf c s) _ (writeList c s) [] (λ _. write-good c s)
-    (λ _. each (λ (a : AskV2). Good a []) (not (eqb (length s) 0)) (Refused 10) _ (λ _. tt)
-    (λ _. each (λ (a : AskV2). Good a []) (eqb access restoreCode) (Asks (Restore c)) (Asks (Read c)) (λ e. rw (eqb-true access restoreCode e) at l) (λ _. tt))))
+known-good limits access c s =
+    both limits (lacksAccess access c) (Refused 9) _ [] _ (λ _. tt)
+    (λ l. both limits (eqb access writeCode) (writeOf limits c s) _ (writeList limits c s) [] (λ _. write-good limits c s)
+    (λ _. each (λ (a : AskV2). Good limits a []) (not (eqb (length s) 0)) (Refused 10) _ (λ _. tt)
+    (λ _. each (λ (a : AskV2). Good limits a []) (eqb access restoreCode) (Asks (Restore c)) (Asks (Read c)) (λ e. rw (eqb-true access restoreCode e) at l) (λ _. tt))))
 
-pub asked-good : (h : HeadV2) (s : List ℕ) → Good (askV2 h s) (askList h s)
+pub asked-good : (limits : ProfileLimits) (h : HeadV2) (s : List ℕ) → Good limits (askV2 limits h s) (askList limits h s)
 unfolding askV2 askList askNamed namedList
-asked-good h s = both (not (isAccess (h .access))) (Refused 7) _ [] _ (λ _. tt) (λ _. go (commandOf (h .first) (h .second)))
+asked-good limits h s = both limits (not (isAccess (h .access))) (Refused 7) _ [] _ (λ _. tt) (λ _. go (commandOf (h .first) (h .second)))
   where
-    go : (n : Named) → Good (askNamed (h .access) n s) (namedList (h .access) n s)
+    go : (n : Named) → Good limits (askNamed limits (h .access) n s) (namedList limits (h .access) n s)
     go Unknown = tt
-    go (Known c) = known-good (h .access) c s
+    go (Known c) = known-good limits (h .access) c s
 
 -- ---- the writer forms it as it is
 
-number-as : (n : Number) → InLimits n → limitedNumber n ≡ Fine n
+number-as : (limits : ProfileLimits) (n : Number) → InLimits limits n → limitedNumber limits n ≡ Fine n
 unfolding limitedNumber limitedOf units pick
-number-as n h =
+number-as limits n h =
     let e : normalOf (exactly n) ≡ Value n = exact (exactly n) n .1 (record { canonical = h .canonical; size = refl; sign = λ _. refl }) in
     rw (e, h .low, h .high)
 
-switch-as : (t : Transition) → Sound (Switch t) → transitionOf (endsIn t) ≡ verdict.Set (Switch t)
+switch-as : (limits : ProfileLimits) (t : Transition) → Sound limits (Switch t) → transitionOf (endsIn limits t) ≡ verdict.Set (Switch t)
 unfolding transitionOf endsIn directOf betweenOf pick
-switch-as (Direct n) h = rw (number-as n h)
-switch-as (Between a b) h = rw (number-as a (h .0), number-as b (h .1), h .2)
+switch-as limits (Direct n) h = rw (number-as limits n h)
+switch-as limits (Between a b) h = rw (number-as limits a (h .1), number-as limits b (h .2), h .0, h .3)
 
 digit-as : (x : Setting) (most d : ℕ) → most < 10 → d ≤ most → judgedDigit x (typedDigit most d) ≡ verdict.Set x
 unfolding judgedDigit typedDigit pick
 digit-as x most d h k = rw (lt-leb 10 d (omega arith), le-ltb most d k)
 
-stream-as : (on : Bool) (list : List ℕ) → ListFits (Stream on) list → typedStream on list ≡ verdict.Set (Stream on)
+stream-as : (limits : ProfileLimits) (on : Bool) (list : List ℕ) → ListFits limits (Stream on) list → typedStream limits on list ≡ verdict.Set (Stream on)
 unfolding typedStream
-stream-as on list h =
-    sym (past _ _ _ _ (no-list on (h .1)) (past _ _ _ _ (ap not (h .0 .known)) (past _ _ _ _ (ap not (good-once list (h .0))) refl)))
+stream-as limits on list h =
+    sym (past _ _ _ _ (no-list on (h .1)) (past _ _ _ _ (ap not (h .0 .known)) (past _ _ _ _ (ap not (good-once (limits .sourceCodes) list (h .0))) refl)))
   where
     no-list : (b : Bool) → (b ≡ false → list ≡ []) → (not b && not (eqb (length list) 0)) ≡ false
     no-list true f = refl
     no-list false f = rw (f refl)
 
-typed-as : (x : Setting) (q : Sources) → Sound x → ListFits x (listOf q) → typedVerdict x q ≡ verdict.Set x
+typed-as : (limits : ProfileLimits) (x : Setting) (q : Sources) → Sound limits x → ListFits limits x (listOf q) → typedVerdict limits x q ≡ verdict.Set x
 unfolding typedVerdict typedAddress factorIn pick
-typed-as (Address v) q h f = rw (within-in (standard .addressLow) (standard .addressHigh) v (h .0) (h .1))
-typed-as (PressureIn u) q h f = refl
-typed-as (Factor v) q h f = rw (factor-is v (h .0) (h .1))
-typed-as (Control d) q h f = digit-as (Control d) (standard .controlHigh) d (omega arith) h
-typed-as (Cathode d) q h f = digit-as (Cathode d) (standard .cathodeHigh) d (omega arith) h
-typed-as (Filament d) q h f = digit-as (Filament d) (standard .filamentHigh) d (omega arith) h
-typed-as (Switch t) q h f = switch-as t h
-typed-as (Stream on) q h f = stream-as on (listOf q) f
+typed-as limits (Address v) q h f = rw (within-in (standard .addressLow) (standard .addressHigh) v (h .0) (h .1))
+typed-as limits (PressureIn u) q h f = refl
+typed-as limits (Factor v) q h f = rw (factor-is v (h .0) (h .1))
+typed-as limits (Control d) q h f = digit-as (Control d) (standard .controlHigh) d (omega arith) h
+typed-as limits (Cathode d) q h f = digit-as (Cathode d) (standard .cathodeHigh) d (omega arith) h
+typed-as limits (Filament d) q h f = digit-as (Filament d) (standard .filamentHigh) d (omega arith) h
+typed-as limits (Switch t) q h f = switch-as limits t h
+typed-as limits (Stream on) q h f = stream-as limits on (listOf q) f
 
-pub formed-as : (r : RequestV2) (q : Sources) → Good (Asks r) (listOf q) → formedV2 r q ≡ Asks r
+pub formed-as : (limits : ProfileLimits) (r : RequestV2) (q : Sources) → Good limits (Asks r) (listOf q) → formedV2 limits r q ≡ Asks r
 unfolding formedV2 setOf pick
-formed-as (Read c) q g = refl
-formed-as (Restore c) q g = rw g
-formed-as (Set x) q g = ap setOf (typed-as x q (g .0) (g .1))
+formed-as limits (Read c) q g = refl
+formed-as limits (Restore c) q g = rw g
+formed-as limits (Set x) q g = ap setOf (typed-as limits x q (g .0) (g .1))
 
 -- ---- the address of a frame
 

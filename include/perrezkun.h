@@ -21,8 +21,8 @@ extern "C" {
 #endif
 
 /*
- * Plays a script of calls on one text gauge and one OPG, which start at factory settings: the text gauge with the bench's start and locked, the
- * OPG with the pressure 0. Returns how many calls were made.
+ * Plays a script of calls on one text gauge, of the third profile, and one OPG, which start at factory settings: the text gauge with the bench's
+ * start and locked, the OPG with the pressure 0. Returns how many calls were made.
  *
  * script   read. Calls one after another; a number of two or four bytes has its high byte first:
  *            0, bytes lent (2), bytes of the request (2), the request   a request to the text gauge
@@ -44,13 +44,20 @@ extern "C" {
 size_t perrezkun_play(const uint8_t *script, size_t script_len, uint8_t *memory, size_t memory_len, uint16_t *numbers, size_t numbers_len,
                       uint16_t *lens, size_t lens_len);
 
+/*
+ * The same on a text gauge of the profile that a number names: 0 the third, which perrezkun_play plays on, 1 VSH, 2 VSM. Any other number names
+ * none: no call is made, 0 is returned, and nothing is written.
+ */
+size_t perrezkun_play_on(uint8_t profile, const uint8_t *script, size_t script_len, uint8_t *memory, size_t memory_len, uint16_t *numbers,
+                         size_t numbers_len, uint16_t *lens, size_t lens_len);
+
 /* The CRC of OPG frames (polynomial 0x1021 reflected, initial 0xFFFF, no final change) of any bytes, which are only read. */
 uint16_t perrezkun_opg_crc(const uint8_t *bytes, size_t bytes_len);
 
 /*
- * Reads any bytes as a V1 or V2 request and writes that request again, in the one form in which the master sends it. Returns 0, or the number of
- * the first refusal of the reader (2, 3, 4, 6 to 11, and 12 where F is not below T or a stream list has a source twice or `0`) or
- * of the writer (1 where less than 109 bytes are lent).
+ * Reads any bytes as a V1 or V2 request, to a gauge of the third profile, and writes that request again, in the one form in which the master
+ * sends it. Returns 0, or the number of the first refusal of the reader (2, 3, 4, 6 to 11, and 12 where F is not below T or a stream list has a
+ * source twice or `0`) or of the writer (1 where less than 109 bytes are lent).
  *
  * request  read
  * out      written: the frame at its front; all other bytes, and all of it where the request is refused, stay as they were.

@@ -1,10 +1,11 @@
 //! Text requests to measure with, and captures of them: the bytes that a line
-//! would carry. They are the same in each run.
+//! would carry. They are the same in each run. And captures for a profile, by a seed.
 
-use crate::random::Generator;
+use crate::random::{Generator, Random};
 use crate::replay::read_hex;
-use crate::text::frame::{build_v1, build_v2, CR};
+use crate::text::frame::{build_v1, build_v2, close, CR};
 use crate::text::gauge::TextGauge;
+use crate::text::profile::Profile;
 use crate::text::ACCEPTED;
 
 /// The accepted requests at random that a capture repeats.
@@ -73,8 +74,49 @@ fn accepts(gauge: &mut TextGauge, request: &[u8]) -> bool {
 /// bench settings are left out.
 fn texts(seed: u64) -> impl Iterator<Item = Vec<u8>> {
     let mut generator = Generator::new(seed);
-    std::iter::from_fn(move || Some(generator.call()))
-        .filter_map(|line| line.strip_prefix("text ").and_then(|words| read_hex(words.split(' ').nth(1)?)))
+    std::iter::from_fn(move || Some(generator.call())).filter_map(|line| text_of(&line))
+}
+
+/// The bytes of a call of the text gauge.
+fn text_of(line: &str) -> Option<Vec<u8>> {
+    read_hex(line.strip_prefix("text ")?.split(' ').nth(1)?)
+}
+
+/// A capture for a gauge of this profile: random and damaged requests, so many or
+/// some more, and `edges`. They are sequences of generators on the profile, each up
+/// to its restart; requests then bring the gauge back to factory settings, where the
+/// next generator takes it to be.
+pub fn on_profile(profile: Profile, random: &mut Random, count: usize) -> Vec<u8> {
+    let mut capture = Vec::new();
+    let (mut gauge, mut made) = (TextGauge::start_on(profile), 0);
+    while made < count {
+        let mut sequence = up_to_restart(Generator::on(profile, random.next()));
+        // The end of what the last request may have left without one.
+        sequence.push(CR);
+        replies(&mut gauge, &sequence, |_| made += 1);
+        let back = back_to_factory(gauge.settings.address).concat();
+        replies(&mut gauge, &back, |_| made += 1);
+        assert_eq!(gauge, TextGauge::start_on(profile));
+        capture.extend([sequence, back].concat());
+    }
+    capture.extend(edges());
+    capture
+}
+
+/// The text requests of a generator before its restart, one after the other.
+fn up_to_restart(mut generator: Generator) -> Vec<u8> {
+    let lines = std::iter::from_fn(|| Some(generator.call()).filter(|line| line != "restart"));
+    lines.filter_map(|line| text_of(&line)).flatten().collect()
+}
+
+/// To a gauge at factory settings: 109 bytes, which are answered; 110 and more, that
+/// end as a request would too; a CR alone; a read; and a read without its CR.
+fn edges() -> Vec<u8> {
+    let read = build_v2(1, b'0', *b"MV", b"");
+    let long = |data: usize| close([b"0012SM99".as_slice(), &b"4".repeat(data)].concat());
+    let ends_well = [b"4".repeat(100), read.clone()].concat();
+    let unfinished = read[..read.len() - 1].to_vec();
+    [long(99), long(100), long(5000), ends_well, vec![CR], read, unfinished].concat()
 }
 
 /// The requests over and over, as many whole ones as the bytes hold.
@@ -111,4 +153,30 @@ pub fn first(capture: &[u8], bytes: usize) -> &[u8] {
 /// The requests of a capture, each with its CR; an unfinished one is none.
 pub fn requests_of(capture: &[u8]) -> impl Iterator<Item = &[u8]> {
     capture.split_inclusive(|byte| *byte == CR).filter(|request| request.ends_with(&[CR]))
+}
+
+/// The reference on a capture, 64 bytes lent: each reply is handed over, an empty one
+/// where it is silent.
+pub fn replies(gauge: &mut TextGauge, capture: &[u8], mut hand_over: impl FnMut(&[u8])) {
+    let mut memory = [0; 64];
+    for request in requests_of(capture) {
+        let (_, len) = gauge.answer(request, &mut memory);
+        hand_over(&memory[..len]);
+    }
+}
+
+/// Where the program's replies and those of another first differ, and the two there.
+pub fn difference(gauge: &[u8], other_name: &str, other: &[u8]) -> Option<String> {
+    if gauge == other {
+        return None;
+    }
+    let at = gauge.iter().zip(other).take_while(|(one, two)| one == two).count();
+    let start = gauge[..at].iter().rposition(|byte| *byte == CR).map_or(0, |before| before + 1);
+    let shown = |replies: &[u8]| match requests_of(&replies[start..]).next() {
+        Some(reply) => format!("\"{}\"", reply.escape_ascii()),
+        None => "no whole reply".to_string(),
+    };
+    let (one, two) = (shown(gauge), shown(other));
+    let (len, other_len) = (gauge.len(), other.len());
+    Some(format!("the replies differ at byte {at} of {len} and {other_len}: gauge wrote {one}, {other_name} {two}"))
 }

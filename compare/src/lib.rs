@@ -5,12 +5,14 @@
 pub mod captures;
 pub mod met;
 pub mod opg;
+pub mod program;
 pub mod random;
 pub mod replay;
 pub mod script;
 pub mod sequence;
 pub mod text;
 pub mod typed;
+pub mod words;
 
 /// Puts the bytes at the start of the memory; the bytes after them stay.
 pub fn place(bytes: &[u8], memory: &mut [u8]) -> usize {

@@ -4,14 +4,18 @@
 //! settings, on one of the three profiles; numbers, lengths and every byte of the
 //! lent memory are compared.
 //! Then it holds the program `replay` to the reference on CALLS random lines,
-//! byte for byte: so the reply readers and the writers' own refusals too.
+//! byte for byte: so the reply readers and the writers' own refusals too. And the
+//! program `gauge`, with words for each profile, on captures of CALLS/10 requests.
 //! Where a part is missing, or nothing of a part was compared, it fails.
 
 #[path = "../proved.rs"]
 mod proved;
+#[path = "hold/served.rs"]
+mod served;
 
 use compare::met::{self, Met};
 use compare::opg;
+use compare::program;
 use compare::random::{Generator, Random};
 use compare::replay::{lines_of, to_hex, World};
 use compare::script::{self, Gauges};
@@ -20,8 +24,8 @@ use compare::text::profile::{Profile, PROFILES};
 use compare::text::{master, request};
 use std::collections::BTreeMap;
 use std::fmt::Display;
-use std::io::{self, Write};
-use std::process::{Command, Output, Stdio};
+use std::io;
+use std::path::{Path, PathBuf};
 
 /// Disagreements to print.
 const SHOWN: usize = 10;
@@ -48,13 +52,15 @@ struct Counts {
     met: Met,
     /// Those that the calls of the static library met.
     met_in_library: Met,
+    /// What `gauge` was held to.
+    served: served::Served,
 }
 
 /// The numbers that a writer answers.
 const WRITTEN: [u16; 10] = [0, 1, 4, 9, 10, 11, 12, 20, 21, 1002];
 /// From so many calls on, each of them is to come up, and each kind of `met.rs`.
 const ENOUGH: usize = 50_000;
-/// The fewest lines that `replay` plays.
+/// The fewest lines that `replay` plays, and requests that `gauge` serves in a run.
 const FEWEST: usize = 2000;
 
 fn main() {
@@ -65,27 +71,44 @@ fn main() {
             std::process::exit(2);
         }
     };
-    let program = concat!(env!("CARGO_MANIFEST_DIR"), "/../target/bin/replay");
-    if !std::path::Path::new(program).is_file() {
-        eprintln!("hold: the program replay is not built (rt check replay): {program}");
-        std::process::exit(1);
-    }
+    let [replay, gauge] = ["replay", "gauge"].map(built);
     let mut counts = Counts::default();
+    hold_library(&mut counts, first_seed, least);
+    let held = hold_replay(&mut counts, &replay, first_seed, least.max(FEWEST));
+    note_run(&mut counts, "replay", held);
+    let held = served::hold_gauge(&mut counts, &gauge, first_seed, (least / 10).max(FEWEST));
+    note_run(&mut counts, "gauge", held);
+    report(&counts);
+    let whole = all_compared(&counts, least);
+    std::process::exit(i32::from(counts.disagreements != 0 || !whole));
+}
+
+/// The program of this name; where there is none, this ends.
+fn built(name: &str) -> PathBuf {
+    program::find(name).unwrap_or_else(|why| {
+        eprintln!("hold: {why}");
+        std::process::exit(1);
+    })
+}
+
+/// A program that could not be run is a disagreement.
+fn note_run(counts: &mut Counts, name: &str, held: io::Result<()>) {
+    if let Err(error) = held {
+        counts.disagreements += 1;
+        println!("the program {name} could not be run: {error}");
+    }
+}
+
+/// Holds the static library to the reference, on so many calls of each gauge or more.
+fn hold_library(counts: &mut Counts, first_seed: u64, least: usize) {
     let mut random = Random::new(first_seed);
     while counts.text < least || counts.opg < least || counts.sequences < WAYS {
         let seed = first_seed + counts.sequences as u64;
         let way = Way::at(counts.sequences, &mut random);
         let sequence = sequence_of(way.profile().unwrap_or_default(), seed, &mut random);
-        hold(&mut counts, &mut random, seed, way, sequence);
+        hold(counts, &mut random, seed, way, sequence);
         counts.sequences += 1;
     }
-    if let Err(error) = hold_replay(&mut counts, program, first_seed, least.max(FEWEST)) {
-        counts.disagreements += 1;
-        println!("the program replay could not be run: {error}");
-    }
-    report(&counts);
-    let whole = all_compared(&counts, least);
-    std::process::exit(i32::from(counts.disagreements != 0 || !whole));
 }
 
 /// The two words, or a million calls and seed 1; None where one is no number.
@@ -111,6 +134,7 @@ fn report(counts: &Counts) {
     println!("typed requests written, by number: {}", listed(&counts.written));
     println!("kinds of calls, by replay: {}", counts.met.summary());
     println!("kinds of calls, by the static library: {}", counts.met_in_library.summary());
+    println!("requests served by the program gauge, by profile: {}", counts.served.summary());
     println!("disagreements: {}", counts.disagreements);
 }
 
@@ -148,6 +172,7 @@ fn all_compared(counts: &Counts, least: usize) -> bool {
         parts.iter().filter(|(_, count)| *count == 0).map(|(part, _)| part.to_string()).collect();
     let unplayed = ways().filter(|way| counts.played.get(way).is_none_or(|calls| *calls == 0));
     missing.extend(unplayed.map(|way| format!("calls {}", name_of(way))));
+    missing.extend(counts.served.missing());
     if least >= ENOUGH {
         let absent = WRITTEN.iter().filter(|number| !counts.written.contains_key(number));
         missing.extend(absent.map(|number| format!("a writer's {number}")));
@@ -171,13 +196,13 @@ fn met_not(missing: Vec<String>, part: &str) -> Vec<String> {
 /// Plays random lines on the program and on the reference. What is printed is
 /// compared as bytes, to the last one, and nothing may be said of a failure.
 /// Under an even seed the last line has no LF.
-fn hold_replay(counts: &mut Counts, program: &str, seed: u64, lines: usize) -> io::Result<()> {
+fn hold_replay(counts: &mut Counts, replay: &Path, seed: u64, lines: usize) -> io::Result<()> {
     let mut generator = Generator::on_all(seed);
     let mut script = (0..lines).map(|_| generator.call()).collect::<Vec<String>>().join("\n").into_bytes();
     if seed % 2 == 1 {
         script.push(b'\n');
     }
-    let output = run(program, script.clone())?;
+    let output = program::run(replay, &[], script.clone())?;
     note(counts, output.status.success() && output.stderr.is_empty(), || {
         format!("replay ended so: {}, {}", output.status, String::from_utf8_lossy(&output.stderr))
     });
@@ -201,17 +226,6 @@ fn hold_replay(counts: &mut Counts, program: &str, seed: u64, lines: usize) -> i
 
 fn shown(line: &[u8]) -> String {
     String::from_utf8_lossy(line).into_owned()
-}
-
-/// Runs a program on some input: all that it wrote.
-fn run(program: &str, input: Vec<u8>) -> io::Result<Output> {
-    let piped = Stdio::piped;
-    let mut child = Command::new(program).stdin(piped()).stdout(piped()).stderr(piped()).spawn()?;
-    let mut pipe = child.stdin.take().ok_or(io::ErrorKind::BrokenPipe)?;
-    let writer = std::thread::spawn(move || pipe.write_all(&input));
-    let output = child.wait_with_output()?;
-    writer.join().map_err(|_| io::ErrorKind::Other)??;
-    Ok(output)
 }
 
 /// How often each occurred, as `which: times`.

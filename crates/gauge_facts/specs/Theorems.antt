@@ -1,6 +1,7 @@
 -- What is proved here, each statement as a type; proofs/ has the proofs. First the demands on one call, then document 01 in its order.
 use mathlib.Core.Path.{_≡_}
 use mathlib.Core.Bool.{true, false, _&&_}
+use mathlib.Core.Option.{some}
 use mathlib.Core.List.{List, [], _∷_, map}
 use mathlib.Core.Logic.{_↔_}
 use Prim.Native.Nat.{ℕ, _<_, _≤_}
@@ -12,7 +13,7 @@ use Rattle.frames.specs.Frame.{dataFrom, misshapen, wrongSum, wrongAddress, wro
 use Rattle.frame_writer.specs.Written.{frameV2}
 use Rattle.decimal.specs.Number.{belowOf}
 use Rattle.decimal.specs.declared.Number.{Number}
-use Rattle.sources.specs.Source.{capacity}
+use Rattle.sources.specs.Source.{capacity, among}
 use Rattle.sources.specs.declared.Profile.{Profile}
 use Rattle.settings.specs.Limits.{ProfileLimits, limitsOf, longestLine}
 use Rattle.forms_facts.specs.Codes.{GoodList}
@@ -34,7 +35,7 @@ use Rattle.requests.specs.declared.RequestV1.{RequestV1}
 use Rattle.requests.specs.declared.AskV1.{AskV1}
 use Rattle.line.specs.Line.{shownList, valuesOf, lineAnswer}
 use Rattle.gauge_rules.specs.State.{State, fresh}
-use Rattle.gauge_rules.specs.BenchIn.{lacked, benchIn}
+use Rattle.gauge_rules.specs.BenchIn.{benchIn}
 use Rattle.gauge_rules.specs.RulesV2.{answerCode, textV2}
 use Rattle.gauge_table.specs.Asked.{isV1, askedV2, askedV1, wrongCode, unknownCommand, lacks, badFormV2, outsideV2, againstLogic}
 use Rattle.gauge_table.specs.Table.{answerRoom, otherAddress, numberOf}
@@ -165,9 +166,13 @@ NextSound = (g : State) (room : ℕ) (s : List ℕ) → SoundState g → SoundSt
 abbrev pub BenchSound : Type 0
 BenchSound = (g : State) (b : Bench) → SoundState g → SoundState (benched g (benchIn (g .limits) b))
 
+-- the source that a bench setting names, if it names one, is one of the profile's
+abbrev pub NamesOffered : ProfileLimits → Bench → Type 0
+NamesOffered limits b = (code : ℕ) → names b ≡ some code → among (limits .sourceCodes) code ≡ true
+
 -- "readings of sources a profile lacks can't be set by its bench (15)", and every other setting is judged as before
 abbrev pub BenchExactly : Type 0
-BenchExactly = (limits : ProfileLimits) (b : Bench) (x : Reading) → (benchIn limits b ≡ Accepted x) ↔ ((lacked limits (names b) ≡ false) × (benchOf b ≡ Accepted x))
+BenchExactly = (limits : ProfileLimits) (b : Bench) (x : Reading) → (benchIn limits b ≡ Accepted x) ↔ (NamesOffered limits b × (benchOf b ≡ Accepted x))
 
 -- "chosen when the gauge is made and fixed after that": no request and no bench setting changes the profile
 abbrev pub ProfileStays : Type 0

@@ -42,8 +42,8 @@ impl Gauge {
         ensures { λ r. ⌜ stateOf r ≡ settled (stateOf self) (held settings) ⌝ }
         ensures { λ r. ⌜ (r .settings ≡ settings) × (r .profile ≡ self .profile) ⌝ }
     {
-        let lock = self.unlocked;
         let profile = self.profile;
+        let lock = self.unlocked;
         let readings = self.readings;
         Gauge {
             profile,

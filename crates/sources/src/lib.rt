@@ -240,10 +240,10 @@ fn offered(profile: Profile, e: Source) -> Source
 {
     match e {
         Source::Known(c) => {
-            if !offers(profile, c) {
-                return Source::Unknown;
+            if offers(profile, c) {
+                return Source::Known(c);
             }
-            Source::Known(c)
+            Source::Unknown
         }
         Source::Unknown => Source::Unknown,
         Source::Malformed => Source::Malformed,

@@ -11,11 +11,11 @@ mod proved;
 
 use compare::captures;
 use compare::opg;
+use compare::program;
 use compare::random::{Generator, Random};
 use compare::replay::read_hex;
 use compare::script::{self, Gauges, To};
 use std::hint::black_box;
-use std::path::Path;
 use std::process::ExitCode;
 use std::time::{Duration, Instant};
 
@@ -55,11 +55,7 @@ fn measure(rounds: usize) -> Result<(), String> {
     requests("OPG, random and damaged requests", rounds, To::Opg, 32, &opg_at_random());
     crc("CRC over 1,294 bytes, against a bit at a time, as the compiler changes it", rounds, opg::crc);
     crc("CRC over 1,294 bytes, against a bit at a time, unchanged", rounds, |bytes| crc_by_bits(bytes, black_box(0x8408)));
-    let program = Path::new(concat!(env!("CARGO_MANIFEST_DIR"), "/../target/bin/gauge"));
-    if !program.exists() {
-        return Err("the program gauge is not built (rt check gauge)".to_string());
-    }
-    programs::measure(program).map_err(|error| error.to_string())
+    programs::measure(&program::find("gauge")?).map_err(|error| error.to_string())
 }
 
 /// The OPG requests of a random sequence.

@@ -2,7 +2,6 @@
 //! which is compiled here, and beside the reference.
 
 use compare::captures;
-use compare::text::frame::CR;
 use compare::text::gauge::TextGauge;
 use std::fmt::Display;
 use std::fs::{self, File};
@@ -76,7 +75,7 @@ impl Tools {
             check_same(name, &replies, peer.name, &peer.replies(file)?)?;
         }
         let mut expected = Vec::new();
-        reference_gauge(capture, |reply| expected.extend(reply));
+        captures::replies(&mut TextGauge::start(), capture, |reply| expected.extend(reply));
         check_same(name, &replies, "the reference", &expected)
     }
 
@@ -135,7 +134,7 @@ impl Tools {
         for _ in 0..RUNS {
             gauge_best = gauge_best.min(self.gauge.time(&file)?);
             let start = Instant::now();
-            reference_gauge(black_box(capture), |reply| {
+            captures::replies(&mut TextGauge::start(), black_box(capture), |reply| {
                 black_box(reply);
             });
             reference_best = reference_best.min(start.elapsed());
@@ -243,26 +242,9 @@ fn failed(name: &str, why: impl Display) -> io::Error {
 
 /// Fails where replies differ, and shows the first two that do.
 fn check_same(name: &str, gauge: &[u8], other_name: &str, other: &[u8]) -> io::Result<()> {
-    if gauge == other {
-        return Ok(());
-    }
-    let at = gauge.iter().zip(other).take_while(|(one, two)| one == two).count();
-    let start = gauge[..at].iter().rposition(|byte| *byte == CR).map_or(0, |before| before + 1);
-    let shown = |replies: &[u8]| match captures::requests_of(&replies[start..]).next() {
-        Some(reply) => format!("\"{}\"", reply.escape_ascii()),
-        None => "no whole reply".to_string(),
-    };
-    let (one, two) = (shown(gauge), shown(other));
-    Err(io::Error::other(format!("{name}: the replies differ at byte {at}: gauge wrote {one}, {other_name} {two}")))
-}
-
-/// The reference on a capture, 64 bytes lent: each reply is handed over.
-fn reference_gauge(capture: &[u8], mut hand_over: impl FnMut(&[u8])) {
-    let mut gauge = TextGauge::start();
-    let mut memory = [0; 64];
-    for request in captures::requests_of(capture) {
-        let (_, len) = gauge.answer(request, &mut memory);
-        hand_over(&memory[..len]);
+    match captures::difference(gauge, other_name, other) {
+        Some(difference) => Err(io::Error::other(format!("{name}: {difference}"))),
+        None => Ok(()),
     }
 }
 

@@ -1,6 +1,7 @@
 -- `forms::judge_transition` meets its contract.
+use mathlib.Core.Path.{ap, _∙_}
 use borrow.Author.Needs.{needs}
-use Rattle.forms.specs.Forms.{transitionData}
+use Rattle.forms.specs.Forms.{transitionOf, transitionData}
 use Rattle.forms.proofs.judge_transition.Statement.{statement}
 use Rattle.forms.proofs.judge_transition.Tie as tie
 
@@ -8,4 +9,4 @@ pub judge-transition-spec : {M : Type 1} → statement M
 unfolding transitionData
 judge-transition-spec =
     tie.close
-    (tie.spec (λ c κs. search needs) (λ c κs. search needs) (λ c. rw (← (c .before .read-ends .ensures)) (c .judge-ends .ensures)))
+    (tie.spec (λ c κs. search needs) (λ c κs. search needs) (λ c. c .judge-ends .ensures ∙ ap transitionOf (c .before .read-ends .ensures)))

@@ -1,7 +1,6 @@
 -- `sources::offered` meets its contract.
 use mathlib.Core.Path.{sym, ap, _∙_}
 use borrow.Author.Needs.{needs}
-use borrow.Author.Tests.{not-true, not-false}
 use Rattle.buffer.specs.First.{pick}
 use Rattle.sources.specs.Source.{sourcesOf}
 use Rattle.sources.specs.Inner.{offeredAs}
@@ -15,9 +14,9 @@ offered-spec =
     (tie.spec
     (λ c. search needs)
     (λ c κs. search needs)
-    (λ c. rw (c .before .before .before .e .given .1, sym (c .before .offers .ensures) ∙ not-true _ (c .if1 .taken)))
+    (λ c. rw (c .before .before .before .e .given .1, sym (c .before .offers .ensures) ∙ c .if1 .taken))
     (λ c. search needs)
     (λ c. search needs)
-    (λ c. rw (c .before .before .before .e .given .1, sym (c .before .offers .ensures) ∙ not-false _ (c .if1 .left)))
+    (λ c. rw (c .before .before .before .e .given .1, sym (c .before .offers .ensures) ∙ c .if1 .left))
     (λ c. sym (ap (offeredAs (sourcesOf (c .before .before .args .profile))) (c .enum-told .given .1)))
     (λ c. sym (ap (offeredAs (sourcesOf (c .before .before .args .profile))) (c .enum-told2 .given .1))))

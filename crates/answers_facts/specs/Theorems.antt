@@ -44,8 +44,8 @@ DecidedV2 = (g : State) (x : AskV2) → decidedV2 g x ≡ first (not (eqb (askNu
 abbrev pub DecidedV1 : Type 0
 DecidedV1 = (g : State) (x : AskV1) → eqb (askNumberV1 x) 0 ≡ false → decidedV1 g x ≡ askNumberV1 x
 
--- the request reader, told the gauge's profile, beside a gauge of the bytes' address, with room for its answer: what the reader refuses the gauge refuses, with the same
--- number, save V1's lock
+-- the request reader, told the gauge's profile, beside a gauge of the bytes' address, with room for its answer: what the reader refuses the gauge
+-- refuses, with the same number, save V1's lock
 abbrev pub RefusedAlike : Type 0
 RefusedAlike = (g : State) (room : ℕ) (s : List ℕ) → ltb room answerRoom ≡ false → otherAddress g s ≡ false
     → eqb (requestNumber (requestOf (g .limits) s)) 0 ≡ false → Refuses g (requestNumber (requestOf (g .limits) s)) (numberOf g room s)

@@ -60,7 +60,8 @@ pub extern "C" fn perrezkun_opg_crc(bytes: &[u8]) -> u16
     opg_crc::crc(bytes)
 }
 
-// Reads any bytes as a text request to a gauge of the third profile and writes the request again: the number of the first refusal, or 0. len is the frame's length.
+// Reads any bytes as a text request to a gauge of the third profile and writes the request again: the number of the first refusal, or 0. len is the
+// frame's length.
 #[no_mangle]
 pub extern "C" fn perrezkun_rewrite_text(request: &[u8], out: &mut [u8], len: &mut usize) -> u16
     ensures { λ r. ⌜ Rewritten (limitsOf Profile.Standard) (now (request .entry)) (now (out .entry)) (now (out .exit)) (record { number = r; len = now (len .exit) }) ⌝ }

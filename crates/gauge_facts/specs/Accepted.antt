@@ -40,7 +40,8 @@ commandFits s = not (test s (unknownLetter (at s 3)) (unknownCommand (named s)))
 abbrev pub accessFits : List ℕ → Bool
 accessFits s = not (test s false (wrongCode (at s 3))) && not (test s false (lacks (at s 3) (named s)))
 
--- 10, 11 and 12: data of the command's form, no number outside and no source that the profile lacks, ST's F strictly below T, each source of SM's list once and no `0`
+-- 10, 11 and 12: data of the command's form, no number outside and no source that the profile lacks, ST's F strictly below T, each source of SM's
+-- list once and no `0`
 abbrev pub dataFits : State → List ℕ → Bool
 dataFits g s =
     not (test s (badFormV1 (at s 3) (dataFrom 4 s)) (badFormV2 (g .limits) (at s 3) (named s) (dataFrom 8 s)))

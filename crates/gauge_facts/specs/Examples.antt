@@ -1,5 +1,5 @@
--- Document 01's rules of the text gauge, and document 02's profiles, at work: worked cases, their numbers and replies taken from an independent reading of the
--- papers.
+-- Document 01's rules of the text gauge, and document 02's profiles, at work: worked cases, their numbers and replies taken from an independent
+-- reading of the papers.
 use mathlib.Core.Bool.{Bool, false}
 use mathlib.Core.List.{List, [], _∷_, _++_, map}
 use Prim.Native.Nat.{ℕ}

@@ -127,8 +127,8 @@ NumberOnBytes = (g : State) (room : ℕ) (s : List ℕ) → isV1 s ≡ false
     ∷ [])
     0)
 
--- of what a gauge of one profile holds, its number for any bytes depends on DA, CM, the readings and the unlock alone: "no refusal changes" where ST starts with
--- another value
+-- of what a gauge of one profile holds, its number for any bytes depends on DA, CM, the readings and the unlock alone: "no refusal changes" where ST
+-- starts with another value
 abbrev pub SameNumber : Type 0
 SameNumber = (g h : State) → g .limits ≡ h .limits → g .settings .address ≡ h .settings .address → g .settings .control ≡ h .settings .control → g .readings ≡ h .readings → g .unlocked ≡ h .unlocked
     → (room : ℕ) (s : List ℕ) → numberOf g room s ≡ numberOf h room s

@@ -1,4 +1,5 @@
-// The text gauge's state and its bench, and the rules by which typed V2 requests are decided, with what they change (document 01, "Settings and readings, V2").
+// The text gauge's state and its bench, and the rules by which typed V2 requests are decided, with what they change (document 01, "Settings and
+// readings, V2").
 ghost use mathlib.Core.Path.{_≡_};
 ghost use mathlib.Core.Bool.{_&&_};
 ghost use mathlib.Core.List.{List, []};

@@ -36,8 +36,8 @@ unfoldable pub joined : List (List ℕ) → List ℕ
 joined [] = []
 joined (t ∷ ts) = t ++ tailOf ts
 
--- with less lent than the profile's longest line, "which is its stream buffer's lower limit", "ROOM, checked first"; "With SM 0 there is no line (0, length 0, nothing written)"; "A frameless stream
--- line has data, checksum and CR only."
+-- with less lent than the profile's longest line, "which is its stream buffer's lower limit", "ROOM, checked first"; "With SM 0 there is no line (0,
+-- length 0, nothing written)"; "A frameless stream line has data, checksum and CR only."
 unfoldable pub lineAnswer : ProfileLimits → ℕ → Held → Readings → Answer
 lineAnswer limits room h r =
     first

@@ -172,9 +172,9 @@ fn at_start(profile: sources::Profile) -> Gauges
     }
 }
 
-// Plays the calls of the script on a text gauge of this profile and an OPG at factory settings. Each call gets the gauge that the last one left, and the next part
-// of the memory. Each answer's number and its reply's length are kept. The play ends where no whole call is left, or too little memory for it, or
-// no place for its answer.
+// Plays the calls of the script on a text gauge of this profile and an OPG at factory settings. Each call gets the gauge that the last one left, and
+// the next part of the memory. Each answer's number and its reply's length are kept. The play ends where no whole call is left, or too little memory
+// for it, or no place for its answer.
 pub fn play(
     profile: sources::Profile,
     script: &[u8],

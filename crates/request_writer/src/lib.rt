@@ -184,8 +184,8 @@ fn send_v2(out: &mut [u8], address: u16, ask: AskV2, q: sources::Sources) -> buf
     }
 }
 
-// Writes a V2 request to a gauge of this profile. Refuses with 1 where less than 109 bytes are lent, 4 where the address is outside 1 to 999, then with 9, 10, 11 or
-// 12; then out stays as it was.
+// Writes a V2 request to a gauge of this profile. Refuses with 1 where less than 109 bytes are lent, 4 where the address is outside 1 to 999, then
+// with 9, 10, 11 or 12; then out stays as it was.
 pub fn write_request_v2(
     out: &mut [u8],
     profile: sources::Profile,

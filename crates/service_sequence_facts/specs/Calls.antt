@@ -30,8 +30,8 @@ Lent memory earlier (asked s before number len after) = (before ≡ drop (length
 Lent memory earlier (benchSet b number) = ⊥
 Lent memory earlier (lined before number len after) = ⊥
 
--- A gauge of a profile, which had the calls h, was given these bytes and the memory `before`, and `serve` came back with r and left the memory `after`: that is a
--- number of requests, one after another. The gauge that came back is one that had these calls and no other since.
+-- A gauge of a profile, which had the calls h, was given these bytes and the memory `before`, and `serve` came back with r and left the memory
+-- `after`: that is a number of requests, one after another. The gauge that came back is one that had these calls and no other since.
 pub record Serving (p : Profile) (h : History) (input before after : List ℕ) (r : Served) : Type 0 where
   -- the calls that were made, the latest first: requests, each lent what was left of the memory
   pub made : History

@@ -26,9 +26,9 @@ pub data AnswersAll : Gauge → List ℕ → Gauge → ℕ → List ℕ → Type
   call : {g g′ : Gauge} {input before after written : List ℕ} {r : Served} {taken : ℕ} → answerRoom ≤ length before → Serves (stateOf g) input before after r
       → AnswersAll (r .gauge) (drop (r .taken) input) g′ taken written → AnswersAll g input g′ (r .taken + taken) (take (r .len) after ++ written)
 
--- A run from a gauge g₀ of a profile, which had the calls h (none where it comes from `Gauge::at_start`, or the bench settings of the program's arguments): the
--- pieces in which bytes came, the latest first, the gauge after them, the bytes that are kept, and all that was written. A piece comes in memory
--- behind the bytes that are kept, both are answered, and `keep` moves what was not taken to the front.
+-- A run from a gauge g₀ of a profile, which had the calls h (none where it comes from `Gauge::at_start`, or the bench settings of the program's
+-- arguments): the pieces in which bytes came, the latest first, the gauge after them, the bytes that are kept, and all that was written. A piece
+-- comes in memory behind the bytes that are kept, both are answered, and `keep` moves what was not taken to the front.
 pub data Run (p : Profile) (h : History) (g₀ : Gauge) : List (List ℕ) → Gauge → List ℕ → List ℕ → Type 0 where
   start : Trace (limitsOf p) h g₀ → Run p h g₀ [] g₀ [] []
   piece : {parts : List (List ℕ)} {g g′ : Gauge} {kept written bytes memory memory′ new : List ℕ} {end taken n : ℕ} → Run p h g₀ parts g kept written

@@ -26,8 +26,8 @@ abbrev pub StreamedInPieces : Type 0
 StreamedInPieces = (p : Profile) (h : History) (g₀ g : Gauge) (parts : List (List ℕ)) (kept written : List ℕ) → Run p h g₀ parts g kept written
     → Streamed p h parts g written
 
--- in plain words: whatever the pieces in which the bytes come to a gauge of any profile at its start (`Trace .. []` is the contract of `Gauge::at_start`), what it
--- answers and holds has the claim on a sequence of calls, and the calls are the requests of the stream
+-- in plain words: whatever the pieces in which the bytes come to a gauge of any profile at its start (`Trace .. []` is the contract of
+-- `Gauge::at_start`), what it answers and holds has the claim on a sequence of calls, and the calls are the requests of the stream
 abbrev pub FromStart : Type 0
 FromStart = (p : Profile) (g₀ g : Gauge) (parts : List (List ℕ)) (kept written : List ℕ) → Run p [] g₀ parts g kept written
     → (h : History) × Claim (limitsOf p) h g × OfProfile p g × Same (requestsOf h) (framesOf (streamOf parts)) × (repliesOf h ≡ written)

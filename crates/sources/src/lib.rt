@@ -324,8 +324,8 @@ fn refused(number: u8) -> Listed
     }
 }
 
-// Reads a text of entries, of any length, for gauges of this profile. The list is never filled past its end; seven known sources hold a repeat or a `0`, so that an entry
-// without a place changes no answer.
+// Reads a text of entries, of any length, for gauges of this profile. The list is never filled past its end; seven known sources hold a repeat or a
+// `0`, so that an entry without a place changes no answer.
 pub fn read_entries(profile: Profile, s: &[u8]) -> Listed
     ensures { λ r. ⌜ Lists (sourcesOf profile) (now (s .entry)) r ⌝ }
 {

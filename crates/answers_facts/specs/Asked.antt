@@ -10,13 +10,13 @@ use Rattle.gauge_rules.specs.State.{State}
 -- ---- what a frame asks
 
 -- document 01's number for each answer of the decoders: 0 where a request was asked
-unfoldable pub askNumberV2 : AskV2 → ℕ
-askNumberV2 (v2.Asks r) = 0
-askNumberV2 (v2.Refused k) = k
+unfoldable pub ask_number_v2 : AskV2 → ℕ
+ask_number_v2 (v2.Asks r) = 0
+ask_number_v2 (v2.Refused k) = k
 
-unfoldable pub askNumberV1 : AskV1 → ℕ
-askNumberV1 (v1.Asks r) = 0
-askNumberV1 (v1.Refused k) = k
+unfoldable pub ask_number_v1 : AskV1 → ℕ
+ask_number_v1 (v1.Asks r) = 0
+ask_number_v1 (v1.Refused k) = k
 
 -- ---- the request reader
 

@@ -2,23 +2,23 @@
 use Rattle.std.specs.Prelude.{Bool, true, false, not, ◌&&◌, List, [], ◌∷◌, ℕ}
 use Rattle.buffer.specs.First.{◌⇒◌, first}
 use Rattle.buffer.specs.Byte.{at}
-use Rattle.frames.specs.Frame.{isLetter, misshapen, wrongSum, wrongAddress, wrongLength}
+use Rattle.frames.specs.Frame.{is_letter, misshapen, wrong_sum, wrong_address, wrong_length}
 use Rattle.frames.specs.declared.Frame.{Frame}
 use Rattle.frames.specs.declared.Frame.TheVariants.{Silent, V1, Length, V2}
 
-unfoldable pub isFrame : Frame → Bool
-isFrame (Silent k) = false
-isFrame (V1 h) = true
-isFrame (Length h) = false
-isFrame (V2 h) = true
+unfoldable pub is_frame : Frame → Bool
+is_frame (Silent k) = false
+is_frame (V1 h) = true
+is_frame (Length h) = false
+is_frame (V2 h) = true
 
 -- the first that applies; 6 LENGTH is V2's
-abbrev pub numberRows : List ℕ → ℕ
-numberRows s =
+abbrev pub number_rows : List ℕ → ℕ
+number_rows s =
     first
     (misshapen s ⇒ 2
-    ∷ wrongSum s ⇒ 3
-    ∷ wrongAddress s ⇒ 4
-    ∷ (not (isLetter (at s 3)) && wrongLength s) ⇒ 6
+    ∷ wrong_sum s ⇒ 3
+    ∷ wrong_address s ⇒ 4
+    ∷ (not (is_letter (at s 3)) && wrong_length s) ⇒ 6
     ∷ [])
     0

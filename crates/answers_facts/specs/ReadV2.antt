@@ -2,127 +2,127 @@
 -- 10, 11 (by table and bench limits)", then 12 for SM's list (document 02), and 0 for a reply that was read.
 use Rattle.std.specs.Prelude.{Bool, true, false, cond, not, ◌&&◌, ◌||◌, List, [], ◌∷◌, ℕ, ◌-◌, eqb, ltb, length}
 use Rattle.buffer.specs.First.{◌⇒◌, first}
-use Rattle.buffer.specs.Byte.{at, isDigit, sameText}
+use Rattle.buffer.specs.Byte.{at, is_digit, same_text}
 use Rattle.buffer.specs.Quoted.{bytes}
-use Rattle.frames.specs.Frame.{wrongSum, wrongAddress, wrongLength, headV2, dataFrom}
-use Rattle.decimal.specs.Form.{number_of, parsedNumber}
-use Rattle.decimal.specs.Number.{hundredthsOf}
+use Rattle.frames.specs.Frame.{wrong_sum, wrong_address, wrong_length, head_v2, data_from}
+use Rattle.decimal.specs.Form.{number_of, parsed_number}
+use Rattle.decimal.specs.Number.{hundredths_of}
 use Rattle.error_texts.specs.declared.ErrorText.TheVariants as error
 use Rattle.decimal.specs.declared.Parsed.{Parsed}
 use Rattle.decimal.specs.declared.Parsed.TheVariants.{Value, Syntax, Range}
 use Rattle.decimal.specs.declared.Hundredths.{Hundredths}
 use Rattle.decimal.specs.declared.Hundredths.TheVariants.{Whole, Other}
-use Rattle.readings.specs.Bench.{takes, outsideDegrees}
-use Rattle.settings.specs.Limits.{ProfileLimits, benchLimits}
-use Rattle.forms.specs.Judged.{verdictOf, verdictNumber}
+use Rattle.readings.specs.Bench.{takes, outside_degrees}
+use Rattle.settings.specs.Limits.{ProfileLimits, bench_limits}
+use Rattle.forms.specs.Judged.{verdict_of, verdict_number}
 use Rattle.settings.specs.declared.Key.TheVariants.{SM}
-use Rattle.requests.specs.Command.{commandText}
+use Rattle.requests.specs.Command.{command_text}
 use Rattle.requests.specs.declared.Command.{Command}
 use Rattle.requests.specs.declared.Command.TheVariants.{MV, T2, FN, FS, Of}
 use Rattle.requests.specs.declared.RequestV2.{RequestV2}
 use Rattle.requests.specs.declared.RequestV2.TheVariants as request
 use Rattle.replies_v2_values.specs.declared.ReadV2.{ReadV2}
 use Rattle.replies_v2_values.specs.declared.ReadV2.TheVariants.{Read, Refused}
-use Rattle.replies_v2.specs.ReplyV2.{notV2, errorCode, mismatched, readShownV2}
-use Rattle.readings.specs.Reading.{underText, overText}
+use Rattle.replies_v2.specs.ReplyV2.{not_v2, error_code, mismatched, read_shown_v2}
+use Rattle.readings.specs.Reading.{under_text, over_text}
 
 -- document 01's number for an answer, and whether a reply was read
-unfoldable pub readNumber : ReadV2 → ℕ
-readNumber x = at (readShownV2 x) 0
+unfoldable pub read_number : ReadV2 → ℕ
+read_number x = at (read_shown_v2 x) 0
 
-unfoldable pub isRead : ReadV2 → Bool
-isRead (Read x) = true
-isRead (Refused k) = false
+unfoldable pub is_read : ReadV2 → Bool
+is_read (Read x) = true
+is_read (Refused k) = false
 
 -- ---- the data of a reply that does not refuse
 
 -- `UR` and `OR`
 unfoldable pub unmeasured : List ℕ → Bool
-unmeasured d = sameText d underText || sameText d overText
+unmeasured d = same_text d under_text || same_text d over_text
 
-abbrev pub oneDigit : List ℕ → Bool
-oneDigit d = eqb (length d) 1 && isDigit (at d 0)
+abbrev pub one_digit : List ℕ → Bool
+one_digit d = eqb (length d) 1 && is_digit (at d 0)
 
 -- 10: the data are not of the command's form. A setting's are judged as those of a write
-unfoldable pub badValue : ProfileLimits → Command → List ℕ → Bool
-badValue limits MV d = not (unmeasured d) && eqb (parsedNumber (number_of d)) 10
-badValue limits T2 d = eqb (parsedNumber (number_of d)) 10
-badValue limits FN d = not (oneDigit d)
-badValue limits FS d = not (oneDigit d)
-badValue limits (Of key) d = eqb (verdictNumber (verdictOf limits key d)) 10
+unfoldable pub bad_value : ProfileLimits → Command → List ℕ → Bool
+bad_value limits MV d = not (unmeasured d) && eqb (parsed_number (number_of d)) 10
+bad_value limits T2 d = eqb (parsed_number (number_of d)) 10
+bad_value limits FN d = not (one_digit d)
+bad_value limits FS d = not (one_digit d)
+bad_value limits (Of key) d = eqb (verdict_number (verdict_of limits key d)) 10
 
 -- 11: of the form, and outside. "0, 1, 2, 6 above zero"; "temperatures whole hundredths from -40.00 to 125.00"; FN `1`-`2`; FS `0`-`3`.
 -- (ST's F and T in any order are read: this reader has 12 for SM's list only.)
-unfoldable pub tooLow : Parsed → Bool
-tooLow (Value n) = not (takes 0 n)
-tooLow Syntax = false
-tooLow Range = true
+unfoldable pub too_low : Parsed → Bool
+too_low (Value n) = not (takes 0 n)
+too_low Syntax = false
+too_low Range = true
 
 unfoldable pub beyond : Bool → Hundredths → Bool
-beyond negative (Whole h) = outsideDegrees negative h
+beyond negative (Whole h) = outside_degrees negative h
 beyond negative Other = true
 
-unfoldable pub noDegrees : Parsed → Bool
-noDegrees (Value n) = beyond n.negative (hundredthsOf n)
-noDegrees Syntax = false
-noDegrees Range = true
+unfoldable pub no_degrees : Parsed → Bool
+no_degrees (Value n) = beyond n.negative (hundredths_of n)
+no_degrees Syntax = false
+no_degrees Range = true
 
 unfoldable pub outside : ProfileLimits → Command → List ℕ → Bool
-outside limits MV d = not (unmeasured d) && tooLow (number_of d)
-outside limits T2 d = noDegrees (number_of d)
-outside limits FN d = ltb benchLimits.filamentHigh (at d 0 - 48) || ltb (at d 0 - 48) benchLimits.filamentLow
-outside limits FS d = ltb benchLimits.statusHigh (at d 0 - 48)
-outside limits (Of key) d = eqb (verdictNumber (verdictOf limits key d)) 11
+outside limits MV d = not (unmeasured d) && too_low (number_of d)
+outside limits T2 d = no_degrees (number_of d)
+outside limits FN d = ltb bench_limits.filament_high (at d 0 - 48) || ltb (at d 0 - 48) bench_limits.filament_low
+outside limits FS d = ltb bench_limits.status_high (at d 0 - 48)
+outside limits (Of key) d = eqb (verdict_number (verdict_of limits key d)) 11
 
 -- 12: "a repeat or a listed `0` is 12 LOGIC, after RANGE, at the writer and the V2 reply reader too"
 unfoldable pub repeated : ProfileLimits → Command → List ℕ → Bool
-repeated limits c d = sameText (commandText c) (bytes "SM") && eqb (verdictNumber (verdictOf limits SM d)) 12
+repeated limits c d = same_text (command_text c) (bytes "SM") && eqb (verdict_number (verdict_of limits SM d)) 12
 
 -- ---- any data; a is the access code
 
 -- "one of the table's six error texts"
-unfoldable pub errorText : List ℕ → Bool
-errorText d =
+unfoldable pub error_text : List ℕ → Bool
+error_text d =
     first
-    (sameText d (bytes "LENGTH") ⇒ true
-    ∷ sameText d (bytes "_LOGIC") ⇒ true
-    ∷ sameText d (bytes "NO_DEF") ⇒ true
-    ∷ sameText d (bytes "SYNTAX") ⇒ true
-    ∷ sameText d (bytes "_RANGE") ⇒ true
-    ∷ sameText d (bytes "ERROR1") ⇒ true
+    (same_text d (bytes "LENGTH") ⇒ true
+    ∷ same_text d (bytes "_LOGIC") ⇒ true
+    ∷ same_text d (bytes "NO_DEF") ⇒ true
+    ∷ same_text d (bytes "SYNTAX") ⇒ true
+    ∷ same_text d (bytes "_RANGE") ⇒ true
+    ∷ same_text d (bytes "ERROR1") ⇒ true
     ∷ [])
     false
 
 -- "Write and default replies carry no data."
-unfoldable pub badData : ProfileLimits → RequestV2 → List ℕ → Bool
-badData limits (request.Read c) d = badValue limits c d
-badData limits (request.Restore c) d = not (eqb (length d) 0)
-badData limits (request.Set x) d = not (eqb (length d) 0)
+unfoldable pub bad_data : ProfileLimits → RequestV2 → List ℕ → Bool
+bad_data limits (request.Read c) d = bad_value limits c d
+bad_data limits (request.Restore c) d = not (eqb (length d) 0)
+bad_data limits (request.Set x) d = not (eqb (length d) 0)
 
-unfoldable pub outsideData : ProfileLimits → RequestV2 → List ℕ → Bool
-outsideData limits (request.Read c) d = outside limits c d
-outsideData limits (request.Restore c) d = false
-outsideData limits (request.Set x) d = false
+unfoldable pub outside_data : ProfileLimits → RequestV2 → List ℕ → Bool
+outside_data limits (request.Read c) d = outside limits c d
+outside_data limits (request.Restore c) d = false
+outside_data limits (request.Set x) d = false
 
-unfoldable pub repeatedData : ProfileLimits → RequestV2 → List ℕ → Bool
-repeatedData limits (request.Read c) d = repeated limits c d
-repeatedData limits (request.Restore c) d = false
-repeatedData limits (request.Set x) d = false
+unfoldable pub repeated_data : ProfileLimits → RequestV2 → List ℕ → Bool
+repeated_data limits (request.Read c) d = repeated limits c d
+repeated_data limits (request.Restore c) d = false
+repeated_data limits (request.Set x) d = false
 
 -- the first that applies
-abbrev pub numberRows : ProfileLimits → ℕ → RequestV2 → List ℕ → ℕ
-numberRows limits address r s =
-    let refuses = eqb (headV2 s).access errorCode in
-    let d = dataFrom 8 s in
+abbrev pub number_rows : ProfileLimits → ℕ → RequestV2 → List ℕ → ℕ
+number_rows limits address r s =
+    let refuses = eqb (head_v2 s).access error_code in
+    let d = data_from 8 s in
     first
-    (notV2 s ⇒ 2
-    ∷ wrongSum s ⇒ 3
-    ∷ wrongAddress s ⇒ 4
-    ∷ not (eqb (headV2 s).address address) ⇒ 5
-    ∷ wrongLength s ⇒ 6
-    ∷ mismatched r (headV2 s) ⇒ 14
-    ∷ cond refuses (not (errorText d)) (badData limits r d) ⇒ 10
-    ∷ (not refuses && outsideData limits r d) ⇒ 11
-    ∷ (not refuses && repeatedData limits r d) ⇒ 12
+    (not_v2 s ⇒ 2
+    ∷ wrong_sum s ⇒ 3
+    ∷ wrong_address s ⇒ 4
+    ∷ not (eqb (head_v2 s).address address) ⇒ 5
+    ∷ wrong_length s ⇒ 6
+    ∷ mismatched r (head_v2 s) ⇒ 14
+    ∷ cond refuses (not (error_text d)) (bad_data limits r d) ⇒ 10
+    ∷ (not refuses && outside_data limits r d) ⇒ 11
+    ∷ (not refuses && repeated_data limits r d) ⇒ 12
     ∷ [])
     0

@@ -9,10 +9,10 @@ use lib.Dec.{leb, eqb}
 use borrow.Author.Tests.{le-leb, lt-leb, eq-eqb, leb-true, leb-false, eqb-true, eqb-false}
 use Rattle.buffer.specs.First.{◌⇒◌, first, pick}
 use Rattle.decimal.specs.Exact.{units}
-use Rattle.decimal.specs.Number.{countedOf, hundredthsOf}
+use Rattle.decimal.specs.Number.{counted_of, hundredths_of}
 use Rattle.decimal.specs.declared.Number.{Number}
 use Rattle.readings.specs.declared.Bench.TheVariants.{Status}
-use Rattle.bench_words.specs.Inner.{statusIn}
+use Rattle.bench_words.specs.Inner.{status_in}
 use Rattle.bench_words.specs.declared.Worded.{Worded}
 use Rattle.bench_words.specs.declared.Worded.TheVariants.{Is, Refused}
 
@@ -28,23 +28,23 @@ hundreds u e =
     rw w (mul-mod_left q 100)
 
 -- no whole number, or one that is too large
-isnt-rows : (u : ℕ) → (u % 10 ^ 14 ≡ 0 → 256 ≤ u / 10 ^ 14) → rows_of u ≡ Refused
+isnt_rows : (u : ℕ) → (u % 10 ^ 14 ≡ 0 → 256 ≤ u / 10 ^ 14) → rows_of u ≡ Refused
 unfolding pick
-isnt-rows u f = go (eqb (u % 10 ^ 14) 0) refl
+isnt_rows u f = go (eqb (u % 10 ^ 14) 0) refl
   where
     go : (t : Bool) → eqb (u % 10 ^ 14) 0 ≡ t → rows_of u ≡ Refused
     go false e = rw e
     go true e = rw (e, le-leb 256 (u / 10 ^ 14) (f (eqb-true _ _ e)))
 
-is-rows : (u h : ℕ) → u % 10 ^ 12 ≡ 0 → h ≡ u / 10 ^ 12 → h % 100 ≡ 0 → h < 25600 → rows_of u ≡ Is (Status (h / 100))
+is_rows : (u h : ℕ) → u % 10 ^ 12 ≡ 0 → h ≡ u / 10 ^ 12 → h % 100 ≡ 0 → h < 25600 → rows_of u ≡ Is (Status (h / 100))
 unfolding pick
-is-rows u h a b c d =
+is_rows u h a b c d =
     let e : h / 100 ≡ u / 10 ^ 14 = omega arith in
     rw (eq-eqb (u % 10 ^ 14) 0 (omega arith), lt-leb 256 (u / 10 ^ 14) (omega arith), e)
 
-pub by-hundredths : (n : Number) → statusIn (hundredthsOf n) ≡ rows_of (units n)
-unfolding statusIn hundredthsOf countedOf pick
-by-hundredths n = whole (eqb (u % 10 ^ 12) 0) refl
+pub by_hundredths : (n : Number) → status_in (hundredths_of n) ≡ rows_of (units n)
+unfolding status_in hundredths_of counted_of pick
+by_hundredths n = whole (eqb (u % 10 ^ 12) 0) refl
   where
     u : ℕ
     u = units n
@@ -52,18 +52,18 @@ by-hundredths n = whole (eqb (u % 10 ^ 12) 0) refl
     h : ℕ
     h = u / 10 ^ 12
 
-    small : (t : Bool) → leb 25600 h ≡ t → u % 10 ^ 12 ≡ 0 → leb (2 ^ 32) h ≡ false → h % 100 ≡ 0 → statusIn (hundredthsOf n) ≡ rows_of u
-    small true e a b c = rw (eq-eqb (u % 10 ^ 12) 0 a, b, eq-eqb (h % 100) 0 c, e) (sym (isnt-rows u (λ k. omega (arith, leb-true 25600 h e))))
-    small false e a b c = rw (eq-eqb (u % 10 ^ 12) 0 a, b, eq-eqb (h % 100) 0 c, e) (sym (is-rows u h a refl c (leb-false 25600 h e)))
+    small : (t : Bool) → leb 25600 h ≡ t → u % 10 ^ 12 ≡ 0 → leb (2 ^ 32) h ≡ false → h % 100 ≡ 0 → status_in (hundredths_of n) ≡ rows_of u
+    small true e a b c = rw (eq-eqb (u % 10 ^ 12) 0 a, b, eq-eqb (h % 100) 0 c, e) (sym (isnt_rows u (λ k. omega (arith, leb-true 25600 h e))))
+    small false e a b c = rw (eq-eqb (u % 10 ^ 12) 0 a, b, eq-eqb (h % 100) 0 c, e) (sym (is_rows u h a refl c (leb-false 25600 h e)))
 
-    hundred : (t : Bool) → eqb (h % 100) 0 ≡ t → u % 10 ^ 12 ≡ 0 → leb (2 ^ 32) h ≡ false → statusIn (hundredthsOf n) ≡ rows_of u
+    hundred : (t : Bool) → eqb (h % 100) 0 ≡ t → u % 10 ^ 12 ≡ 0 → leb (2 ^ 32) h ≡ false → status_in (hundredths_of n) ≡ rows_of u
     hundred true e a b = small (leb 25600 h) refl a b (eqb-true _ _ e)
-    hundred false e a b = rw (eq-eqb (u % 10 ^ 12) 0 a, b, e) (sym (isnt-rows u (λ k. absurd (eqb-false (h % 100) 0 e (hundreds u k)))))
+    hundred false e a b = rw (eq-eqb (u % 10 ^ 12) 0 a, b, e) (sym (isnt_rows u (λ k. absurd (eqb-false (h % 100) 0 e (hundreds u k)))))
 
-    counted : (t : Bool) → leb (2 ^ 32) h ≡ t → u % 10 ^ 12 ≡ 0 → statusIn (hundredthsOf n) ≡ rows_of u
-    counted true e a = rw (eq-eqb (u % 10 ^ 12) 0 a, e) (sym (isnt-rows u (λ k. omega (arith, leb-true (2 ^ 32) h e))))
+    counted : (t : Bool) → leb (2 ^ 32) h ≡ t → u % 10 ^ 12 ≡ 0 → status_in (hundredths_of n) ≡ rows_of u
+    counted true e a = rw (eq-eqb (u % 10 ^ 12) 0 a, e) (sym (isnt_rows u (λ k. omega (arith, leb-true (2 ^ 32) h e))))
     counted false e a = hundred (eqb (h % 100) 0) refl a e
 
-    whole : (t : Bool) → eqb (u % 10 ^ 12) 0 ≡ t → statusIn (hundredthsOf n) ≡ rows_of u
+    whole : (t : Bool) → eqb (u % 10 ^ 12) 0 ≡ t → status_in (hundredths_of n) ≡ rows_of u
     whole true e = counted (leb (2 ^ 32) h) refl (eqb-true _ _ e)
-    whole false e = rw e (sym (isnt-rows u (λ k. absurd (eqb-false (u % 10 ^ 12) 0 e (omega arith)))))
+    whole false e = rw e (sym (isnt_rows u (λ k. absurd (eqb-false (u % 10 ^ 12) 0 e (omega arith)))))

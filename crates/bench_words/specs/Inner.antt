@@ -8,6 +8,6 @@ use Rattle.bench_words.specs.declared.Worded.{Worded}
 use Rattle.bench_words.specs.declared.Worded.TheVariants.{Is, Refused}
 
 -- FS, of a number's size in hundredths
-unfoldable pub statusIn : Hundredths → Worded
-statusIn (Whole h) = first (not (eqb (h % 100) 0) ⇒ Refused ∷ leb 25600 h ⇒ Refused ∷ []) (Is (Status (h / 100)))
-statusIn Other = Refused
+unfoldable pub status_in : Hundredths → Worded
+status_in (Whole h) = first (not (eqb (h % 100) 0) ⇒ Refused ∷ leb 25600 h ⇒ Refused ∷ []) (Is (Status (h / 100)))
+status_in Other = Refused

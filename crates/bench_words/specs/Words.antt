@@ -1,22 +1,22 @@
 -- Document 01, "Settings and readings, V2": the text of a source and the text of a value as a bench setting.
 use Rattle.std.specs.Prelude.{not, List, [], ◌∷◌, ℕ, ◌/◌, ◌%◌, ◌^◌, leb, eqb}
 use Rattle.buffer.specs.First.{◌⇒◌, first}
-use Rattle.buffer.specs.Byte.{sameText}
+use Rattle.buffer.specs.Byte.{same_text}
 use Rattle.buffer.specs.Quoted.{bytes}
 use Rattle.decimal.specs.Exact.{units}
-use Rattle.decimal.specs.Form.{parsedOf}
+use Rattle.decimal.specs.Form.{parsed_of}
 use Rattle.decimal.specs.declared.Scan.{Scan}
 use Rattle.decimal.specs.declared.Scan.TheVariants.{Of, NoForm}
 use Rattle.decimal.specs.declared.Parsed.{Parsed}
 use Rattle.decimal.specs.declared.Parsed.TheVariants.{Value, Syntax, Range}
-use Rattle.error_texts.specs.Texts.{errorBytes}
+use Rattle.error_texts.specs.Texts.{error_bytes}
 use Rattle.error_texts.specs.declared.ErrorText.TheVariants.{Error1}
-use Rattle.long_decimal.specs.Long.{decimalOf}
-use Rattle.sources.specs.Source.{knownSources, sourceOf}
+use Rattle.long_decimal.specs.Long.{decimal_of}
+use Rattle.sources.specs.Source.{known_sources, source_of}
 use Rattle.sources.specs.declared.Source.{Source}
 use Rattle.sources.specs.declared.Source.TheVariants.{Known, Unknown, Malformed}
-use Rattle.readings.specs.Reading.{underText, overText}
-use Rattle.readings.specs.Bench.{benchOf, benchNumber}
+use Rattle.readings.specs.Reading.{under_text, over_text}
+use Rattle.readings.specs.Bench.{bench_of, bench_number}
 use Rattle.readings.specs.declared.Bench.TheVariants.{Reads, UnderRange, OverRange, Faulty, Status}
 use Rattle.bench_words.specs.declared.Worded.{Worded}
 use Rattle.bench_words.specs.declared.Worded.TheVariants.{Is, Refused}
@@ -31,40 +31,40 @@ number_at code NoForm = Refused
 unfoldable pub value_at : ℕ → List ℕ → Worded
 value_at code value =
     first
-    (sameText value underText ⇒ Is (UnderRange code)
-    ∷ sameText value overText ⇒ Is (OverRange code)
-    ∷ sameText value (errorBytes Error1) ⇒ Is (Faulty code)
+    (same_text value under_text ⇒ Is (UnderRange code)
+    ∷ same_text value over_text ⇒ Is (OverRange code)
+    ∷ same_text value (error_bytes Error1) ⇒ Is (Faulty code)
     ∷ [])
-    (number_at code (decimalOf value))
+    (number_at code (decimal_of value))
 
 -- "and FS, 0 to 3": the whole number that a decimal is by its value, in 10^-14; what is below zero, a fraction, or 256 and more, which the
 -- type of FS does not hold, is no setting
-unfoldable pub statusOf : Parsed → Worded
-statusOf (Value n) =
+unfoldable pub status_of : Parsed → Worded
+status_of (Value n) =
     first
     (n.negative ⇒ Refused
     ∷ not (eqb (units n % 10 ^ 14) 0) ⇒ Refused
     ∷ leb 256 (units n / 10 ^ 14) ⇒ Refused
     ∷ [])
     (Is (Status (units n / 10 ^ 14)))
-statusOf Syntax = Refused
-statusOf Range = Refused
+status_of Syntax = Refused
+status_of Range = Refused
 
 -- the value of a source: "The sources here are exactly `0 1 2 6 7 T2 T6`"
-unfoldable pub sourceAt : Source → List ℕ → Worded
-sourceAt (Known code) value = value_at code value
-sourceAt Unknown value = Refused
-sourceAt Malformed value = Refused
+unfoldable pub source_at : Source → List ℕ → Worded
+source_at (Known code) value = value_at code value
+source_at Unknown value = Refused
+source_at Malformed value = Refused
 
 -- "The bench sets the readings .. and FS"
-unfoldable pub wordedOf : List ℕ → List ℕ → Worded
-wordedOf source value =
+unfoldable pub worded_of : List ℕ → List ℕ → Worded
+worded_of source value =
     first
-    (sameText source (bytes "FS") ⇒ statusOf (parsedOf (decimalOf value))
+    (same_text source (bytes "FS") ⇒ status_of (parsed_of (decimal_of value))
     ∷ [])
-    (sourceAt (sourceOf knownSources source) value)
+    (source_at (source_of known_sources source) value)
 
 -- the number of the bench's answer: "anything else is refused with 15 BENCH"
-abbrev pub wordedNumber : Worded → ℕ
-wordedNumber (Is setting) = benchNumber (benchOf setting)
-wordedNumber Refused = 15
+abbrev pub worded_number : Worded → ℕ
+worded_number (Is setting) = bench_number (bench_of setting)
+worded_number Refused = 15

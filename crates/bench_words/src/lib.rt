@@ -1,8 +1,8 @@
 // A bench setting in words (document 01, "Settings and readings, V2"): the text of a source and the text of a value.
 ghost use Rattle.std.specs.Prelude.{◌≡◌};
-ghost use Rattle.decimal.specs.Form.{parsedOf};
-ghost use Rattle.bench_words.specs.Words.{number_at, value_at, statusOf, wordedOf};
-ghost use Rattle.bench_words.specs.Inner.{statusIn};
+ghost use Rattle.decimal.specs.Form.{parsed_of};
+ghost use Rattle.bench_words.specs.Words.{number_at, value_at, status_of, worded_of};
+ghost use Rattle.bench_words.specs.Inner.{status_in};
 
 use readings::Bench;
 
@@ -43,7 +43,7 @@ fn value_at(code: u8, value: &[u8]) -> Worded
 
 // The number of a decimal.
 fn number_of(scan: decimal::Scan) -> decimal::Parsed
-    ensures { result ≡ parsedOf scan }
+    ensures { result ≡ parsed_of scan }
 {
     match scan {
         decimal::Scan::Of(x) => decimal::normal(x),
@@ -53,7 +53,7 @@ fn number_of(scan: decimal::Scan) -> decimal::Parsed
 
 // FS, of a number's size in hundredths.
 fn status_in(h: decimal::Hundredths) -> Worded
-    ensures { result ≡ statusIn h }
+    ensures { result ≡ status_in h }
 {
     let decimal::Hundredths::Whole(n) = h else {
         return Worded::Refused;
@@ -69,7 +69,7 @@ fn status_in(h: decimal::Hundredths) -> Worded
 
 // FS.
 fn status_of(p: decimal::Parsed) -> Worded
-    ensures { result ≡ statusOf p }
+    ensures { result ≡ status_of p }
 {
     let decimal::Parsed::Value(n) = p else {
         return Worded::Refused;
@@ -82,7 +82,7 @@ fn status_of(p: decimal::Parsed) -> Worded
 
 // Any two texts as a bench setting.
 pub fn read_setting(source: &[u8], value: &[u8]) -> Worded
-    ensures { result ≡ wordedOf source.now value.now }
+    ensures { result ≡ worded_of source.now value.now }
 {
     let status = [b'F', b'S'];
     if buffer::is_same(source, &status) {

@@ -11,29 +11,29 @@ use lib.Dec.{eqb, leb, eqb-zero-suc}
 use lib.ListN.{length, get_or, set, drop, take, length-take, length-drop, drop_of_length-le, length-append}
 use lib.Seq.{sets, sets-eq, drop-cons, take_at, take_all, set_out, take-nil, take-suc-set}
 use Rattle.buffer.specs.Answer.{Answer, silent, over, Stored, Sent}
-use Rattle.buffer.specs.Byte.{at, within, isDigit, leading, starts_with, sameText, untilOf, numeralFrom}
+use Rattle.buffer.specs.Byte.{at, within, is_digit, leading, starts_with, same_text, until_of, numeral_from}
 use Rattle.buffer.specs.Text.{text_of, cut}
 use Rattle.buffer.specs.declared.Text.{Text}
 
 -- ---- stores
 
 -- one store more: what is left to store at i is the element at i, and what is left at i + 1
-pub sets-step : (m s : List ℕ) (o i : ℕ) → i < length s → sets m o (drop i s) ≡ sets (set m o (get_or s i 0)) (o + 1) (drop (i + 1) s)
-sets-step m s o i h = rw (add-one i, add-one o, drop-cons s i 0)
+pub sets_step : (m s : List ℕ) (o i : ℕ) → i < length s → sets m o (drop i s) ≡ sets (set m o (get_or s i 0)) (o + 1) (drop (i + 1) s)
+sets_step m s o i h = rw (add-one i, add-one o, drop-cons s i 0)
 
 -- stores past the end change nothing
-pub sets-out : (m : List ℕ) (o : ℕ) (bs : List ℕ) → length m ≤ o → sets m o bs ≡ m
-sets-out m o [] h = refl
-sets-out m o (b ∷ bs) h = ap (λ (l : List ℕ). sets l (suc o) bs) (set_out m o b h) ∙ sets-out m (suc o) bs (omega arith)
+pub sets_out : (m : List ℕ) (o : ℕ) (bs : List ℕ) → length m ≤ o → sets m o bs ≡ m
+sets_out m o [] h = refl
+sets_out m o (b ∷ bs) h = ap (λ (l : List ℕ). sets l (suc o) bs) (set_out m o b h) ∙ sets_out m (suc o) bs (omega arith)
 
 -- two runs of stores, the second where the first ends, are one
-pub sets-sets : (m : List ℕ) (at : ℕ) (a b : List ℕ) → sets (sets m at a) (at + length a) b ≡ sets m at (a ++ b)
-sets-sets m at [] b = ap (λ (k : ℕ). sets m k b) (add-zero at)
-sets-sets m at (x ∷ a) b = ap (λ (k : ℕ). sets (sets (set m at x) (suc at) a) k b) (add-suc at (length a) ∙ sym (suc-add at (length a))) ∙ sets-sets (set m at x) (suc at) a b
+pub sets_sets : (m : List ℕ) (at : ℕ) (a b : List ℕ) → sets (sets m at a) (at + length a) b ≡ sets m at (a ++ b)
+sets_sets m at [] b = ap (λ (k : ℕ). sets m k b) (add-zero at)
+sets_sets m at (x ∷ a) b = ap (λ (k : ℕ). sets (sets (set m at x) (suc at) a) k b) (add-suc at (length a) ∙ sym (suc-add at (length a))) ∙ sets_sets (set m at x) (suc at) a b
 
 -- a text stored, then another where it ends, is both stored; p is the place where the first ends
 pub then : {m m₁ m₂ a b : List ℕ} {at : ℕ} (p : ℕ) → Stored m at a m₁ → p ≡ at + length a → Stored m₁ p b m₂ → Stored m at (a ++ b) m₂
-then {m} {m₁} {m₂} {a} {b} {at} p f n g = record { memory = g.memory ∙ rw (f.memory, n) (sets-sets m at a b) }
+then {m} {m₁} {m₂} {a} {b} {at} p f n g = record { memory = g.memory ∙ rw (f.memory, n) (sets_sets m at a b) }
 
 -- a text stored at the front, where it fits: the text, and then the memory as it was
 pub whole : {m m' a : List ℕ} → Stored m 0 a m' → length a ≤ length m → m' ≡ over a m
@@ -60,31 +60,31 @@ sends k r e f n h = rw e (record { number = refl; len = n; memory = whole f h })
 -- ---- lists
 
 -- for every loop that reads a slice from the front: what is left at i is the element at i, and what is left at i + 1
-pub drop-step : (s : List ℕ) (i : ℕ) → i < length s → drop i s ≡ get_or s i 0 ∷ drop (i + 1) s
-drop-step s i h = rw (add-one i, drop-cons s i 0)
+pub drop_step : (s : List ℕ) (i : ℕ) → i < length s → drop i s ≡ get_or s i 0 ∷ drop (i + 1) s
+drop_step s i h = rw (add-one i, drop-cons s i 0)
 
 -- a part to the end of a slice
-pub part-rest : (s : List ℕ) (a : ℕ) → take (length s - a) (drop a s) ≡ drop a s
-part-rest s a = take_all (length s - a) (drop a s) (simp length-drop (omega arith))
+pub part_rest : (s : List ℕ) (a : ℕ) → take (length s - a) (drop a s) ≡ drop a s
+part_rest s a = take_all (length s - a) (drop a s) (simp length-drop (omega arith))
 
 -- a part in the middle of a slice
-pub part-middle : (a e : ℕ) (s : List ℕ) → take (e - a) (drop a s) ≡ drop a (take e s)
-part-middle zero e s = rw sub-zero
-part-middle (suc a) e [] = rw (take-nil e, take-nil (e - suc a))
-part-middle (suc a) zero (x ∷ s) = rw zero-sub
-part-middle (suc a) (suc e) (x ∷ s) = rw suc-sub-suc (part-middle a e s)
+pub part_middle : (a e : ℕ) (s : List ℕ) → take (e - a) (drop a s) ≡ drop a (take e s)
+part_middle zero e s = rw sub-zero
+part_middle (suc a) e [] = rw (take-nil e, take-nil (e - suc a))
+part_middle (suc a) zero (x ∷ s) = rw zero-sub
+part_middle (suc a) (suc e) (x ∷ s) = rw suc-sub-suc (part_middle a e s)
 
 -- as many as a part has, taken from the whole, is the part
-pub take-taken : (n : ℕ) (l : List ℕ) → take (length (take n l)) l ≡ take n l
-take-taken zero l = refl
-take-taken (suc n) [] = refl
-take-taken (suc n) (x ∷ l) = ap (λ (r : List ℕ). x ∷ r) (take-taken n l)
+pub take_taken : (n : ℕ) (l : List ℕ) → take (length (take n l)) l ≡ take n l
+take_taken zero l = refl
+take_taken (suc n) [] = refl
+take_taken (suc n) (x ∷ l) = ap (λ (r : List ℕ). x ∷ r) (take_taken n l)
 
 -- ---- limits
 
-pub within-true : (low high n : ℕ) → within low high n ≡ true → (low ≤ n) × (n ≤ high)
+pub within_true : (low high n : ℕ) → within low high n ≡ true → (low ≤ n) × (n ≤ high)
 unfolding within
-within-true low high n e =
+within_true low high n e =
     let h = (and-eq-true_iff (leb low n) (leb n high)).0 e in
     (leb-true low n h.0, leb-true n high h.1)
 
@@ -92,54 +92,54 @@ pub within_in : (low high n : ℕ) → low ≤ n → n ≤ high → within low h
 unfolding within
 within_in low high n h k = rw (le-leb low n h, le-leb n high k)
 
-pub within-below : (low high n : ℕ) → n < low → within low high n ≡ false
+pub within_below : (low high n : ℕ) → n < low → within low high n ≡ false
 unfolding within
-within-below low high n h = rw (lt-leb low n h)
+within_below low high n h = rw (lt-leb low n h)
 
-pub within-above : (low high n : ℕ) → high < n → within low high n ≡ false
+pub within_above : (low high n : ℕ) → high < n → within low high n ≡ false
 unfolding within
-within-above low high n h = rw (lt-leb n high h) (and-false (leb low n))
+within_above low high n h = rw (lt-leb n high h) (and-false (leb low n))
 
 -- ---- two texts
 
 -- texts of different lengths differ
-pub same-lengths : (s t : List ℕ) → (length s ≡ length t → ⊥) → sameText s t ≡ false
-unfolding sameText
-same-lengths [] [] h = absurd (h refl)
-same-lengths [] (y ∷ t) h = refl
-same-lengths (x ∷ s) [] h = refl
-same-lengths (x ∷ s) (y ∷ t) h = rw (same-lengths s t (λ (e : length s ≡ length t). h (ap suc e)))
+pub same_lengths : (s t : List ℕ) → (length s ≡ length t → ⊥) → same_text s t ≡ false
+unfolding same_text
+same_lengths [] [] h = absurd (h refl)
+same_lengths [] (y ∷ t) h = refl
+same_lengths (x ∷ s) [] h = refl
+same_lengths (x ∷ s) (y ∷ t) h = rw (same_lengths s t (λ (e : length s ≡ length t). h (ap suc e)))
 
 -- a text is the same as itself, and as no other
-pub same_self : (s : List ℕ) → sameText s s ≡ true
-unfolding sameText
+pub same_self : (s : List ℕ) → same_text s s ≡ true
+unfolding same_text
 same_self [] = refl
 same_self (x ∷ s) = rw (same_self s, eq-eqb x x refl)
 
-pub same-equal : (s t : List ℕ) → sameText s t ≡ true → s ≡ t
-unfolding sameText
-same-equal [] [] e = refl
-same-equal [] (y ∷ t) e = absurd (let z : ◌≡◌ {A = ℕ} 0 1 = cc in omega arith)
-same-equal (x ∷ s) [] e = absurd (let z : ◌≡◌ {A = ℕ} 0 1 = cc in omega arith)
-same-equal (x ∷ s) (y ∷ t) e =
-    let w = (and-eq-true_iff (sameText s t) (eqb x y)).0 e in
-    cc (same-equal s t w.0, eqb-true x y w.1)
+pub same_equal : (s t : List ℕ) → same_text s t ≡ true → s ≡ t
+unfolding same_text
+same_equal [] [] e = refl
+same_equal [] (y ∷ t) e = absurd (let z : ◌≡◌ {A = ℕ} 0 1 = cc in omega arith)
+same_equal (x ∷ s) [] e = absurd (let z : ◌≡◌ {A = ℕ} 0 1 = cc in omega arith)
+same_equal (x ∷ s) (y ∷ t) e =
+    let w = (and-eq-true_iff (same_text s t) (eqb x y)).0 e in
+    cc (same_equal s t w.0, eqb-true x y w.1)
 
-pub same_step : (s t : List ℕ) (i : ℕ) → i < length s → i < length t → sameText (drop i s) (drop i t) ≡ (sameText (drop (i + 1) s) (drop (i + 1) t) && eqb (get_or s i 0) (get_or t i 0))
-unfolding sameText
-same_step s t i h k = rw (drop-step s i h, drop-step t i k)
+pub same_step : (s t : List ℕ) (i : ℕ) → i < length s → i < length t → same_text (drop i s) (drop i t) ≡ (same_text (drop (i + 1) s) (drop (i + 1) t) && eqb (get_or s i 0) (get_or t i 0))
+unfolding same_text
+same_step s t i h k = rw (drop_step s i h, drop_step t i k)
 
 -- ---- bytes at the front, and past the end
 
 -- past the end every byte is 0
-pub at-past : (s : List ℕ) (i : ℕ) → length s ≤ i → 0 ≡ at s i
-at-past [] i h = refl
-at-past (x ∷ s) zero h = omega arith
-at-past (x ∷ s) (suc i) h = at-past s i (omega arith)
+pub at_past : (s : List ℕ) (i : ℕ) → length s ≤ i → 0 ≡ at s i
+at_past [] i h = refl
+at_past (x ∷ s) zero h = omega arith
+at_past (x ∷ s) (suc i) h = at_past s i (omega arith)
 
-pub leading_step : (s : List ℕ) (i : ℕ) → i < length s → leading (drop i s) ≡ cond (isDigit (get_or s i 0)) (leading (drop (i + 1) s) + 1) 0
+pub leading_step : (s : List ℕ) (i : ℕ) → i < length s → leading (drop i s) ≡ cond (is_digit (get_or s i 0)) (leading (drop (i + 1) s) + 1) 0
 unfolding leading
-leading_step s i h = ap leading (drop-step s i h)
+leading_step s i h = ap leading (drop_step s i h)
 
 pub leading_end : (s : List ℕ) (i : ℕ) → length s ≤ i → leading (drop i s) ≡ 0
 unfolding leading
@@ -148,63 +148,63 @@ leading_end s i h = ap leading (drop_of_length-le s h)
 pub leading_le : (s : List ℕ) → leading s ≤ length s
 unfolding leading
 leading_le [] = omega arith
-leading_le (x ∷ s) = go (isDigit x) (leading_le s)
+leading_le (x ∷ s) = go (is_digit x) (leading_le s)
   where
     go : (b : Bool) → leading s ≤ length s → cond b (leading s + 1) 0 ≤ suc (length s)
     go true h = omega arith
     go false h = omega arith
 
 -- a text that starts with some character is not empty
-pub starts-some : (b : ℕ) (s : List ℕ) → starts_with (suc b) s ≡ true → 1 ≤ length s
+pub starts_some : (b : ℕ) (s : List ℕ) → starts_with (suc b) s ≡ true → 1 ≤ length s
 unfolding starts_with
-starts-some b [] h = absurd (true≢false (sym h ∙ eqb-zero-suc b))
-starts-some b (x ∷ s) h = omega arith
+starts_some b [] h = absurd (true≢false (sym h ∙ eqb-zero-suc b))
+starts_some b (x ∷ s) h = omega arith
 
 -- ---- what stands before a byte
 
-pub until-step : (b : ℕ) (s : List ℕ) (i : ℕ) → i < length s → untilOf b (drop i s) ≡ cond (eqb (get_or s i 0) b) 0 (untilOf b (drop (i + 1) s) + 1)
-unfolding untilOf
-until-step b s i h = ap (untilOf b) (drop-step s i h)
+pub until_step : (b : ℕ) (s : List ℕ) (i : ℕ) → i < length s → until_of b (drop i s) ≡ cond (eqb (get_or s i 0) b) 0 (until_of b (drop (i + 1) s) + 1)
+unfolding until_of
+until_step b s i h = ap (until_of b) (drop_step s i h)
 
 -- the first b does not stand before place i
 abbrev pub Passed : ℕ → List ℕ → ℕ → Type 0
-Passed b s i = (i ≤ length s) × (i + untilOf b (drop i s) ≡ untilOf b s)
+Passed b s i = (i ≤ length s) × (i + until_of b (drop i s) ≡ until_of b s)
 
 -- a byte that is not b is passed; k is the next place
 pub pass : (b : ℕ) (s : List ℕ) (i k : ℕ) → i < length s → (get_or s i 0 ≡ b → ⊥) → k ≡ i + 1 → Passed b s i → Passed b s k
 pass b s i k h other e p =
     let other : eqb (get_or s i 0) b ≡ false = ne_eqb _ _ other in
-    let step = rw other at (until-step b s i h) in
+    let step = rw other at (until_step b s i h) in
     rw e (omega arith, omega (arith, step))
 
-pub until_end : (b : ℕ) (s : List ℕ) (i : ℕ) → length s ≤ i → untilOf b (drop i s) ≡ 0
-unfolding untilOf
-until_end b s i h = ap (untilOf b) (drop_of_length-le s h)
+pub until_end : (b : ℕ) (s : List ℕ) (i : ℕ) → length s ≤ i → until_of b (drop i s) ≡ 0
+unfolding until_of
+until_end b s i h = ap (until_of b) (drop_of_length-le s h)
 
-pub until-le : (b : ℕ) (s : List ℕ) → untilOf b s ≤ length s
-unfolding untilOf
-until-le b [] = omega arith
-until-le b (x ∷ s) = go (eqb x b) (until-le b s)
+pub until_le : (b : ℕ) (s : List ℕ) → until_of b s ≤ length s
+unfolding until_of
+until_le b [] = omega arith
+until_le b (x ∷ s) = go (eqb x b) (until_le b s)
   where
-    go : (t : Bool) → untilOf b s ≤ length s → cond t 0 (untilOf b s + 1) ≤ suc (length s)
+    go : (t : Bool) → until_of b s ≤ length s → cond t 0 (until_of b s + 1) ≤ suc (length s)
     go true h = omega arith
     go false h = omega arith
 
 -- ---- numerals
 
 -- the character at i, of at most n, and what is left of them at i + 1
-pub numeral-step : (s : List ℕ) (v i n : ℕ) → i < length s → i < n
-    → numeralFrom v (take (n - i) (drop i s)) ≡ numeralFrom (v * 10 + (get_or s i 0 - 48)) (take (n - (i + 1)) (drop (i + 1) s))
-unfolding numeralFrom
-numeral-step s v i n h k =
+pub numeral_step : (s : List ℕ) (v i n : ℕ) → i < length s → i < n
+    → numeral_from v (take (n - i) (drop i s)) ≡ numeral_from (v * 10 + (get_or s i 0 - 48)) (take (n - (i + 1)) (drop (i + 1) s))
+unfolding numeral_from
+numeral_step s v i n h k =
     let e : n - i ≡ suc (n - (i + 1)) = omega arith in
-    rw (e, drop-step s i h)
+    rw (e, drop_step s i h)
 
-pub ten-step : (i : ℕ) → 10 ^ (i + 1) ≡ 10 ^ i * 10
-ten-step i = rw add-one (pow-suc 10 i)
+pub ten_step : (i : ℕ) → 10 ^ (i + 1) ≡ 10 ^ i * 10
+ten_step i = rw add-one (pow-suc 10 i)
 
-pub ten-max : (i n : ℕ) → i ≤ n → 10 ^ i ≤ 10 ^ n
-ten-max i n h = pow-le-pow_right {n = 10} (omega arith) h
+pub ten_max : (i n : ℕ) → i ≤ n → 10 ^ i ≤ 10 ^ n
+ten_max i n h = pow-le-pow_right {n = 10} (omega arith) h
 
 -- ---- an array of n elements of which the first `at` count
 
@@ -217,26 +217,26 @@ pub full : (l : List ℕ) (at n b : ℕ) → length l ≡ n → n ≤ at → tak
 full l at n b e h = sym (take_at (take at l) (b ∷ []) n (simp length-take (omega arith)))
 
 -- how many count
-pub count-in : (l : List ℕ) (at n : ℕ) → length l ≡ n → at < n → at ≡ length (take at l)
-count-in l at n e h = simp length-take (omega arith)
+pub count_in : (l : List ℕ) (at n : ℕ) → length l ≡ n → at < n → at ≡ length (take at l)
+count_in l at n e h = simp length-take (omega arith)
 
-pub count-full : (l : List ℕ) (at n : ℕ) → length l ≡ n → n ≤ at → n ≡ length (take at l)
-count-full l at n e h = simp length-take (omega arith)
+pub count_full : (l : List ℕ) (at n : ℕ) → length l ≡ n → n ≤ at → n ≡ length (take at l)
+count_full l at n e h = simp length-take (omega arith)
 
 -- ---- short texts
 
 -- what was taken is cut no further by what follows it
-pub take-cut : (n : ℕ) (x y : List ℕ) → take n (take n x ++ y) ≡ take n (x ++ y)
-take-cut zero x y = refl
-take-cut (suc n) [] y = refl
-take-cut (suc n) (z ∷ x) y = ap (λ (l : List ℕ). z ∷ l) (take-cut n x y)
+pub take_cut : (n : ℕ) (x y : List ℕ) → take n (take n x ++ y) ≡ take n (x ++ y)
+take_cut zero x y = refl
+take_cut (suc n) [] y = refl
+take_cut (suc n) (z ∷ x) y = ap (λ (l : List ℕ). z ∷ l) (take_cut n x y)
 
-pub cut-cut : (a b : List ℕ) → cut (cut a ++ b) ≡ cut (a ++ b)
+pub cut_cut : (a b : List ℕ) → cut (cut a ++ b) ≡ cut (a ++ b)
 unfolding cut
-cut-cut a b = take-cut 24 a b
+cut_cut a b = take_cut 24 a b
 
 pub cut_again : (a : List ℕ) → cut (cut a) ≡ cut a
-cut_again a = rw (append-nil (cut a), append-nil a) at (cut-cut a [])
+cut_again a = rw (append-nil (cut a), append-nil a) at (cut_cut a [])
 
 -- a text that fits is not cut
 pub cut_fits : (a : List ℕ) → length a ≤ 24 → cut a ≡ a
@@ -246,8 +246,8 @@ cut_fits a h = take_all 24 a h
 -- as many of a text's bytes as it has characters are the text
 pub shown : (t : Text) (n : ℕ) → n ≡ length (text_of t) → take n t.bytes ≡ text_of t
 unfolding text_of
-shown t n e = ap (λ (k : ℕ). take k t.bytes) e ∙ take-taken t.len t.bytes
+shown t n e = ap (λ (k : ℕ). take k t.bytes) e ∙ take_taken t.len t.bytes
 
-pub shown-le : (t : Text) (n : ℕ) → n ≡ length (text_of t) → n ≤ length t.bytes
+pub shown_le : (t : Text) (n : ℕ) → n ≡ length (text_of t) → n ≤ length t.bytes
 unfolding text_of
-shown-le t n e = omega (arith, simp length-take at e)
+shown_le t n e = omega (arith, simp length-take at e)

@@ -30,8 +30,8 @@ unflag t v r e h = rw e at h
 pub not_eqb : (a b : ℕ) → a ≡ b → not (eqb a b) ≡ false
 not_eqb a b e = ap not (eq-eqb a b e)
 
-pub not-neqb : (a b : ℕ) → (a ≡ b → ⊥) → not (eqb a b) ≡ true
-not-neqb a b h = ap not (ne_eqb a b h)
+pub not_neqb : (a b : ℕ) → (a ≡ b → ⊥) → not (eqb a b) ≡ true
+not_neqb a b h = ap not (ne_eqb a b h)
 
 -- whatever the rows give has P, if each thing that they can give has it
 pub each : {A : Type 0} (P : A → Type 0) (t : Bool) (a b : A) → (t ≡ true → P a) → (t ≡ false → P b) → P (pick t a b)
@@ -41,4 +41,4 @@ each P false a b f g = g refl
 
 pub ruleset tests = (lt-ltb, le-ltb, le-leb, lt-leb, eq-eqb, ne_eqb)
 
-pub ruleset rules = (past, stop, same, lt-ltb, le-ltb, le-leb, lt-leb, eq-eqb, ne_eqb, not_eqb, not-neqb)
+pub ruleset rules = (past, stop, same, lt-ltb, le-ltb, le-leb, lt-leb, eq-eqb, ne_eqb, not_eqb, not_neqb)

@@ -10,13 +10,13 @@ unfoldable pub within : ℕ → ℕ → ℕ → Bool
 within low high n = leb low n && leb n high
 
 -- `0` to `9`
-abbrev pub isDigit : ℕ → Bool
-isDigit b = within 48 57 b
+abbrev pub is_digit : ℕ → Bool
+is_digit b = within 48 57 b
 
 -- how many digits stand at the front
 unfoldable pub leading : List ℕ → ℕ
 leading [] = 0
-leading (x ∷ s) = cond (isDigit x) (leading s + 1) 0
+leading (x ∷ s) = cond (is_digit x) (leading s + 1) 0
 
 -- whether the text starts with the character b (no text has the character 0)
 unfoldable pub starts_with : ℕ → List ℕ → Bool
@@ -32,25 +32,25 @@ abbrev pub Printed : List ℕ → Type 0
 Printed s = every (within 32 126) s ≡ true
 
 -- two texts are the same
-unfoldable pub sameText : List ℕ → List ℕ → Bool
-sameText [] [] = true
-sameText [] (y ∷ t) = false
-sameText (x ∷ s) [] = false
-sameText (x ∷ s) (y ∷ t) = sameText s t && eqb x y
+unfoldable pub same_text : List ℕ → List ℕ → Bool
+same_text [] [] = true
+same_text [] (y ∷ t) = false
+same_text (x ∷ s) [] = false
+same_text (x ∷ s) (y ∷ t) = same_text s t && eqb x y
 
 -- how many elements stand before the first b, or the end
-unfoldable pub untilOf : ℕ → List ℕ → ℕ
-untilOf b [] = 0
-untilOf b (x ∷ s) = cond (eqb x b) 0 (untilOf b s + 1)
+unfoldable pub until_of : ℕ → List ℕ → ℕ
+until_of b [] = 0
+until_of b (x ∷ s) = cond (eqb x b) 0 (until_of b s + 1)
 
 -- the number that a list of digits spells, after v
-unfoldable pub numeralFrom : ℕ → List ℕ → ℕ
-numeralFrom v [] = v
-numeralFrom v (x ∷ xs) = numeralFrom (v * 10 + (x - 48)) xs
+unfoldable pub numeral_from : ℕ → List ℕ → ℕ
+numeral_from v [] = v
+numeral_from v (x ∷ xs) = numeral_from (v * 10 + (x - 48)) xs
 
 -- the number that a list of digits spells
 abbrev pub numeral : List ℕ → ℕ
-numeral s = numeralFrom 0 s
+numeral s = numeral_from 0 s
 
 -- the number that two bytes stand for, and four, the high byte first
 abbrev pub pair_of : ℕ → ℕ → ℕ

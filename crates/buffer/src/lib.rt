@@ -1,7 +1,8 @@
+#![tactic(auto)]
 // Bytes written into lent memory, and short texts by value. Every writer of the project uses these functions.
 ghost use Rattle.std.specs.Prelude.{◌≡◌, [], ◌∷◌, ◌++◌, length, take, drop, ◌+◌, ◌-◌, ◌≤◌};
 ghost use Rattle.buffer.specs.Answer.{Stored};
-ghost use Rattle.buffer.specs.Byte.{at, within, every, leading, starts_with, sameText, untilOf, numeral, word_of};
+ghost use Rattle.buffer.specs.Byte.{at, within, every, leading, starts_with, same_text, until_of, numeral, word_of};
 ghost use Rattle.buffer.specs.Text.{text_of, cut};
 
 // An answer's number, and the length of its reply.
@@ -152,7 +153,7 @@ pub fn numeral_of(s: &[u8]) -> u32
 
 // Whether two texts are the same.
 pub fn is_same(s: &[u8], t: &[u8]) -> bool
-    ensures { result ≡ sameText s.now t.now }
+    ensures { result ≡ same_text s.now t.now }
 {
     if s.len() != t.len() {
         return false;
@@ -210,7 +211,7 @@ pub fn starts_with(s: &[u8], b: u8) -> bool
 
 // A place that has no b before it, found four bytes at a time: the first b, or where fewer than four bytes are left.
 fn passed_by_fours(s: &[u8], b: u8) -> usize
-    ensures { (result ≤ length s.now) × (result + untilOf b (drop result s.now) ≡ untilOf b s.now) }
+    ensures { (result ≤ length s.now) × (result + until_of b (drop result s.now) ≡ until_of b s.now) }
 {
     let mut i: usize = 0;
     while 4 <= s.len() - i {
@@ -233,7 +234,7 @@ fn passed_by_fours(s: &[u8], b: u8) -> usize
 
 // How many bytes stand before the first b, or the end.
 pub fn until(s: &[u8], b: u8) -> usize
-    ensures { result ≡ untilOf b s.now }
+    ensures { result ≡ until_of b s.now }
 {
     let mut i = passed_by_fours(s, b);
     while i < s.len() {

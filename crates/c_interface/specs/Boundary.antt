@@ -12,13 +12,13 @@ pub record RanTo (profile : Profile) (script memory numbers lens : List ℕ) (ca
   pub ran : Ran profile script memory numbers lens gauges calls memory' numbers' lens'
 
 -- the profile that a number names, and whether it names one: 0 is the third, 1 VSH, 2 VSM
-unfoldable pub profileAt : ℕ → Profile
-profileAt n = first (eqb n 1 ⇒ Vsh ∷ eqb n 2 ⇒ Vsm ∷ []) Standard
+unfoldable pub profile_at : ℕ → Profile
+profile_at n = first (eqb n 1 ⇒ Vsh ∷ eqb n 2 ⇒ Vsm ∷ []) Standard
 
-abbrev pub namesProfile : ℕ → Bool
-namesProfile n = leb n 2
+abbrev pub names_profile : ℕ → Bool
+names_profile n = leb n 2
 
 -- a play on the profile that n names; where n names none, no call is made and nothing is written
 pub record PlayedOn (n : ℕ) (script memory numbers lens : List ℕ) (calls : ℕ) (memory' numbers' lens' : List ℕ) : Type 0 where
-  pub named : namesProfile n ≡ true → RanTo (profileAt n) script memory numbers lens calls memory' numbers' lens'
-  pub unnamed : namesProfile n ≡ false → (calls ≡ 0) × (memory' ≡ memory) × (numbers' ≡ numbers) × (lens' ≡ lens)
+  pub named : names_profile n ≡ true → RanTo (profile_at n) script memory numbers lens calls memory' numbers' lens'
+  pub unnamed : names_profile n ≡ false → (calls ≡ 0) × (memory' ≡ memory) × (numbers' ≡ numbers) × (lens' ≡ lens)

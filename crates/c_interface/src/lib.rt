@@ -1,12 +1,12 @@
 // The C boundary of the proved gauges: functions of numbers and slices. include/perrezkun.h declares them for C.
 ghost use Rattle.std.specs.Prelude.{◌≡◌, length};
-ghost use Rattle.opg_crc.specs.Crc.{crcOf};
+ghost use Rattle.opg_crc.specs.Crc.{crc_of};
 ghost use Rattle.buffer.specs.Answer.{Sent};
 ghost use Rattle.opg_request_reader.specs.Asked.{asked_of};
-ghost use Rattle.rewriter.specs.Again.{opgAgain, Rewritten};
+ghost use Rattle.rewriter.specs.Again.{opg_again, Rewritten};
 ghost use Rattle.sources.specs.declared.Profile.{Profile};
-ghost use Rattle.settings.specs.Limits.{limitsOf};
-ghost use Rattle.c_interface.specs.Boundary.{profileAt, RanTo, PlayedOn};
+ghost use Rattle.settings.specs.Limits.{limits_of};
+ghost use Rattle.c_interface.specs.Boundary.{profile_at, RanTo, PlayedOn};
 
 // Plays a script of calls on a text gauge of the third profile and an OPG at factory settings (player::play): how many calls were made.
 #[unsafe(no_mangle)]
@@ -24,7 +24,7 @@ pub extern "C" fn perrezkun_play(
 
 // The profile that a number names: 1 VSH, 2 VSM, and any other the third.
 fn profile_at(n: u8) -> sources::Profile
-    ensures { result ≡ profileAt n }
+    ensures { result ≡ profile_at n }
 {
     match n {
         1 => sources::Profile::Vsh,
@@ -54,7 +54,7 @@ pub extern "C" fn perrezkun_play_on(
 // The CRC of OPG frames, over any bytes.
 #[unsafe(no_mangle)]
 pub extern "C" fn perrezkun_opg_crc(bytes: &[u8]) -> u16
-    ensures { result ≡ crcOf bytes.now }
+    ensures { result ≡ crc_of bytes.now }
 {
     opg_crc::crc(bytes)
 }
@@ -63,7 +63,7 @@ pub extern "C" fn perrezkun_opg_crc(bytes: &[u8]) -> u16
 // frame's length.
 #[unsafe(no_mangle)]
 pub extern "C" fn perrezkun_rewrite_text(request: &[u8], out: &mut [u8], len: &mut usize) -> u16
-    ensures { Rewritten (limitsOf Profile.Standard) request.now out.old out.new (record { number = result; len = len.new }) }
+    ensures { Rewritten (limits_of Profile.Standard) request.now out.old out.new (record { number = result; len = len.new }) }
 {
     let w = rewriter::rewrite_text(sources::Profile::Standard, request, out);
     *len = w.len;
@@ -73,7 +73,7 @@ pub extern "C" fn perrezkun_rewrite_text(request: &[u8], out: &mut [u8], len: &m
 // Reads any bytes as an OPG request and writes the request again: the number of the first refusal, or 20. len is the frame's length.
 #[unsafe(no_mangle)]
 pub extern "C" fn perrezkun_rewrite_opg(request: &[u8], out: &mut [u8], len: &mut usize) -> u16
-    ensures { Sent out.old (opgAgain (length out.old) (asked_of request.now)) out.new (record { number = result; len = len.new }) }
+    ensures { Sent out.old (opg_again (length out.old) (asked_of request.now)) out.new (record { number = result; len = len.new }) }
 {
     let written = rewriter::rewrite_opg(request, out);
     *len = written.len;

@@ -11,26 +11,26 @@ use Rattle.decimal.specs.declared.Parsed.TheVariants.{Value, Syntax, Range}
 unfoldable pub units : Number → ℕ
 units n = n.mantissa * 10 ^ n.place
 
-abbrev pub zeroNumber : Number
-zeroNumber = record { negative = false; mantissa = 0; place = 0 }
+abbrev pub zero_number : Number
+zero_number = record { negative = false; mantissa = 0; place = 0 }
 
 -- how many decimal digits n has: one if it is below 10, which `last` says, and else one more than its tens have. (n steps are always enough)
-abbrev pub digitsIn : ℕ → Bool → ℕ → ℕ
-digitsIn zero last n = 1
-digitsIn (suc steps) true n = 1
-digitsIn (suc steps) false n = digitsIn steps (ltb (n / 10) 10) (n / 10) + 1
+abbrev pub digits_in : ℕ → Bool → ℕ → ℕ
+digits_in zero last n = 1
+digits_in (suc steps) true n = 1
+digits_in (suc steps) false n = digits_in steps (ltb (n / 10) 10) (n / 10) + 1
 
 unfoldable pub size_of : ℕ → ℕ
-size_of n = digitsIn n (ltb n 10) n
+size_of n = digits_in n (ltb n 10) n
 
 -- The canonical number of a value: six digits, the first not zero, and the first one's place from 10^-9, which is 0, to 10^9, which is 18.
 -- "The value is exact. It is zero or has its first nonzero digit at a place from 10^-9 to 10^9; else RANGE." A value that needs over six
 -- digits has no text of the form: SYNTAX. (The first of z digits stands at 10 ^ (z - 1 + up - down).)
-unfoldable pub normalOf : Exact → Parsed
-normalOf x =
+unfoldable pub normal_of : Exact → Parsed
+normal_of x =
     let z = size_of x.digits in
     first
-    (eqb x.digits 0 ⇒ Value zeroNumber
+    (eqb x.digits 0 ⇒ Value zero_number
     ∷ not (eqb (x.digits * 10 ^ 6 % 10 ^ z) 0) ⇒ Syntax
     ∷ ltb (z + 8 + x.up) x.down ⇒ Range
     ∷ leb (x.down + 19) (z + 8 + x.up) ⇒ Range

@@ -4,7 +4,7 @@
 use Rattle.std.specs.Prelude.{Bool, true, false, not, ◌||◌, List, [], ◌∷◌, ℕ, ◌+◌, ◌*◌, ◌^◌, ltb, leb, eqb, length, take, drop}
 use Rattle.buffer.specs.First.{◌⇒◌, first}
 use Rattle.buffer.specs.Byte.{leading, starts_with, numeral}
-use Rattle.decimal.specs.Exact.{normalOf}
+use Rattle.decimal.specs.Exact.{normal_of}
 use Rattle.decimal.specs.declared.Exact.{Exact}
 use Rattle.decimal.specs.declared.Scan.{Scan}
 use Rattle.decimal.specs.declared.Scan.TheVariants.{Of, NoForm}
@@ -16,8 +16,8 @@ abbrev pub whole : Bool → ℕ → Exact
 whole negative n = record { negative = negative; digits = n; up = 0; down = 0 }
 
 -- "one or two digits", and no more. `below` says that a `-` stood before them
-unfoldable pub powerOf : List ℕ → Exact → Bool → Scan
-powerOf s x below =
+unfoldable pub power_of : List ℕ → Exact → Bool → Scan
+power_of s x below =
     let n = leading s in
     let p = numeral (take n s) in
     first
@@ -29,53 +29,53 @@ powerOf s x below =
     (Of (record { negative = x.negative; digits = x.digits; up = p; down = x.down }))
 
 -- "optionally `e` or `E`, an optional `-`"
-unfoldable pub exponentOf : List ℕ → Exact → Scan
-exponentOf s x =
+unfoldable pub exponent_of : List ℕ → Exact → Scan
+exponent_of s x =
     let t = drop 1 s in
     first
     (eqb (length s) 0 ⇒ Of x
     ∷ not (starts_with 101 s || starts_with 69 s) ⇒ NoForm
-    ∷ starts_with 45 t ⇒ powerOf (drop 1 t) x true
+    ∷ starts_with 45 t ⇒ power_of (drop 1 t) x true
     ∷ [])
-    (powerOf t x false)
+    (power_of t x false)
 
 -- after the point: "digits". "at most six digits stand before the exponent": n of them, which x has, stand before the point
-unfoldable pub fractionOf : List ℕ → Exact → ℕ → Scan
-fractionOf s x n =
+unfoldable pub fraction_of : List ℕ → Exact → ℕ → Scan
+fraction_of s x n =
     let k = leading s in
     first
     (ltb k 1 ⇒ NoForm
     ∷ leb 7 (n + k) ⇒ NoForm
     ∷ [])
-    (exponentOf (drop k s) (record { negative = x.negative; digits = x.digits * 10 ^ k + numeral (take k s); up = 0; down = k }))
+    (exponent_of (drop k s) (record { negative = x.negative; digits = x.digits * 10 ^ k + numeral (take k s); up = 0; down = k }))
 
 -- "digits, optionally `.` and digits"
-unfoldable pub unsignedOf : List ℕ → Bool → Scan
-unsignedOf s negative =
+unfoldable pub unsigned_of : List ℕ → Bool → Scan
+unsigned_of s negative =
     let n = leading s in
     let x = whole negative (numeral (take n s)) in
     let t = drop n s in
     first
     (ltb n 1 ⇒ NoForm
     ∷ leb 7 n ⇒ NoForm
-    ∷ starts_with 46 t ⇒ fractionOf (drop 1 t) x n
+    ∷ starts_with 46 t ⇒ fraction_of (drop 1 t) x n
     ∷ [])
-    (exponentOf t x)
+    (exponent_of t x)
 
 -- "an optional `-`": the exact value of a text of the form
-unfoldable pub scanOf : List ℕ → Scan
-scanOf s = first (starts_with 45 s ⇒ unsignedOf (drop 1 s) true ∷ []) (unsignedOf s false)
+unfoldable pub scan_of : List ℕ → Scan
+scan_of s = first (starts_with 45 s ⇒ unsigned_of (drop 1 s) true ∷ []) (unsigned_of s false)
 
 -- what a reader answers: the canonical number of the exact value, SYNTAX where the text is not of the form, else RANGE
-unfoldable pub parsedOf : Scan → Parsed
-parsedOf NoForm = Syntax
-parsedOf (Of x) = normalOf x
+unfoldable pub parsed_of : Scan → Parsed
+parsed_of NoForm = Syntax
+parsed_of (Of x) = normal_of x
 
 -- document 01's number for each answer: 0 where it is a number
-abbrev pub parsedNumber : Parsed → ℕ
-parsedNumber (Value n) = 0
-parsedNumber Syntax = 10
-parsedNumber Range = 11
+abbrev pub parsed_number : Parsed → ℕ
+parsed_number (Value n) = 0
+parsed_number Syntax = 10
+parsed_number Range = 11
 
 unfoldable pub number_of : List ℕ → Parsed
-number_of s = parsedOf (scanOf s)
+number_of s = parsed_of (scan_of s)

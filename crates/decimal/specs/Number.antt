@@ -14,17 +14,17 @@ unfoldable pub minus : Number → ℕ
 minus n = cond n.negative (units n) 0
 
 -- a's value is below b's
-unfoldable pub belowOf : Number → Number → Bool
-belowOf a b = ltb (plus a + minus b) (plus b + minus a)
+unfoldable pub below_of : Number → Number → Bool
+below_of a b = ltb (plus a + minus b) (plus b + minus a)
 
 -- a and b have the same value
-unfoldable pub sameValue : Number → Number → Bool
-sameValue a b = eqb (plus a + minus b) (plus b + minus a)
+unfoldable pub same_value : Number → Number → Bool
+same_value a b = eqb (plus a + minus b) (plus b + minus a)
 
 -- a count that the type of a count, a u32, can hold: no limit of document 01's on hundredths is near its end
-unfoldable pub countedOf : ℕ → Hundredths
-countedOf h = first (leb (2 ^ 32) h ⇒ Other ∷ []) (Whole h)
+unfoldable pub counted_of : ℕ → Hundredths
+counted_of h = first (leb (2 ^ 32) h ⇒ Other ∷ []) (Whole h)
 
 -- "whole hundredths": how many hundredths a number's size is, where they are whole
-unfoldable pub hundredthsOf : Number → Hundredths
-hundredthsOf n = first (not (eqb (units n % 10 ^ 12) 0) ⇒ Other ∷ []) (countedOf (units n / 10 ^ 12))
+unfoldable pub hundredths_of : Number → Hundredths
+hundredths_of n = first (not (eqb (units n % 10 ^ 12) 0) ⇒ Other ∷ []) (counted_of (units n / 10 ^ 12))

@@ -1,9 +1,9 @@
 // Decimal numbers (document 01, "Decimal numbers"): exact values, their reader, and comparison by value.
 ghost use Rattle.std.specs.Prelude.{◌≡◌, ◌||◌, ◌+◌, ◌*◌, ◌^◌, ◌≤◌, ◌<◌, take, ltb};
 ghost use Rattle.buffer.specs.Byte.{leading, starts_with, numeral};
-ghost use Rattle.decimal.specs.Exact.{units, size_of, normalOf};
-ghost use Rattle.decimal.specs.Form.{whole, powerOf, exponentOf, fractionOf, unsignedOf, scanOf, number_of};
-ghost use Rattle.decimal.specs.Number.{belowOf, countedOf, hundredthsOf};
+ghost use Rattle.decimal.specs.Exact.{units, size_of, normal_of};
+ghost use Rattle.decimal.specs.Form.{whole, power_of, exponent_of, fraction_of, unsigned_of, scan_of, number_of};
+ghost use Rattle.decimal.specs.Number.{below_of, counted_of, hundredths_of};
 ghost use Rattle.decimal.specs.Inner.{Scaled};
 
 // A number: mantissa * 10 ^ place, in 10^-14. A reader gives the canonical one of each value: a mantissa of six digits, the first not
@@ -99,7 +99,7 @@ fn size_of(n: u32) -> u8
 
 // The canonical number of a value, or SYNTAX where it needs over six digits, or RANGE.
 pub fn normal(x: Exact) -> Parsed
-    ensures { result ≡ normalOf x }
+    ensures { result ≡ normal_of x }
 {
     let digits = x.digits;
     if digits == 0 {
@@ -140,7 +140,7 @@ fn spelled(s: &[u8], n: usize) -> u32
 // The one or two digits of an exponent, to the end of the text.
 fn power(s: &[u8], x: Exact, below: bool) -> Scan
     requires { x.down ≤ 6 }
-    ensures { result ≡ powerOf s.now x below }
+    ensures { result ≡ power_of s.now x below }
 {
     let n = buffer::count_digits(s);
     if n < 1 {
@@ -182,7 +182,7 @@ fn is_marked(s: &[u8]) -> bool
 // What follows the digits: nothing, or an exponent.
 fn exponent(s: &[u8], x: Exact) -> Scan
     requires { x.down ≤ 6 }
-    ensures { result ≡ exponentOf s.now x }
+    ensures { result ≡ exponent_of s.now x }
 {
     if s.len() == 0 {
         return Scan::Of(x);
@@ -199,7 +199,7 @@ fn exponent(s: &[u8], x: Exact) -> Scan
 
 // The value of a whole number with what follows it: nothing, or an exponent.
 pub fn read_exponent(negative: bool, digits: u32, s: &[u8]) -> Scan
-    ensures { result ≡ exponentOf s.now (whole negative digits) }
+    ensures { result ≡ exponent_of s.now (whole negative digits) }
 {
     exponent(
         s,
@@ -215,7 +215,7 @@ pub fn read_exponent(negative: bool, digits: u32, s: &[u8]) -> Scan
 // What follows the point: x has the n digits that stand before it.
 fn fraction(s: &[u8], x: Exact, n: usize) -> Scan
     requires { (n ≤ 6) × (x.digits < 10 ^ n) }
-    ensures { result ≡ fractionOf s.now x n }
+    ensures { result ≡ fraction_of s.now x n }
 {
     let k = buffer::count_digits(s);
     if k < 1 {
@@ -236,7 +236,7 @@ fn fraction(s: &[u8], x: Exact, n: usize) -> Scan
 }
 
 fn unsigned(s: &[u8], negative: bool) -> Scan
-    ensures { result ≡ unsignedOf s.now negative }
+    ensures { result ≡ unsigned_of s.now negative }
 {
     let n = buffer::count_digits(s);
     if n < 1 {
@@ -260,7 +260,7 @@ fn unsigned(s: &[u8], negative: bool) -> Scan
 
 // The exact value of a text of the form.
 pub fn read_exact(s: &[u8]) -> Scan
-    ensures { result ≡ scanOf s.now }
+    ensures { result ≡ scan_of s.now }
 {
     if buffer::starts_with(s, b'-') {
         return unsigned(buffer::rest(s, 1), true);
@@ -308,7 +308,7 @@ fn is_less(a: Number, b: Number) -> bool
 impl Number {
     // Whether this value is below the other.
     pub fn is_below(self, other: Number) -> bool
-        ensures { result ≡ belowOf self other }
+        ensures { result ≡ below_of self other }
     {
         if self.negative {
             if other.negative {
@@ -335,7 +335,7 @@ pub enum Hundredths {
 
 // A count of hundredths, where it fits a u32.
 fn counted(v: u64) -> Hundredths
-    ensures { result ≡ countedOf v }
+    ensures { result ≡ counted_of v }
 {
     if 4294967296 <= v {
         return Hundredths::Other;
@@ -345,7 +345,7 @@ fn counted(v: u64) -> Hundredths
 
 // How many hundredths a number's size is, where they are whole and fit a u32.
 pub fn in_hundredths(n: Number) -> Hundredths
-    ensures { result ≡ hundredthsOf n }
+    ensures { result ≡ hundredths_of n }
 {
     let p = n.place;
     if 12 <= p {

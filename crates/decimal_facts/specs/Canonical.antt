@@ -1,6 +1,6 @@
 -- Document 01, "Decimal numbers": canonical numbers, and which values have one.
 use Rattle.std.specs.Prelude.{◌≡◌, ◌⊎◌, ℕ, ◌+◌, ◌*◌, ◌^◌, ◌<◌, ◌≤◌, List, []}
-use Rattle.decimal.specs.Exact.{units, zeroNumber}
+use Rattle.decimal.specs.Exact.{units, zero_number}
 use Rattle.decimal_text.specs.Written.{written_of}
 use Rattle.decimal.specs.declared.Number.{Number}
 use Rattle.decimal.specs.declared.Exact.{Exact}
@@ -15,7 +15,7 @@ pub record Full (n : Number) : Type 0 where
 
 -- "It is zero or" that
 abbrev pub Canonical : Number → Type 0
-Canonical n = (n ≡ zeroNumber) ⊎ Full n
+Canonical n = (n ≡ zero_number) ⊎ Full n
 
 -- n is the canonical number of x's value: its size units n / 10 ^ 14 is digits * 10 ^ up / 10 ^ down, and its sign is x's
 pub record Exactly (x : Exact) (n : Number) : Type 0 where
@@ -41,13 +41,13 @@ SixDigits d = (m : ℕ) × (k : ℕ) × (m < 10 ^ 6) × (d ≡ m * 10 ^ k)
 
 -- what is answered for x, and what is then known of x
 pub data ParsesAs (x : Exact) : Parsed → Type 0 where
-  nothing : x.digits ≡ 0 → ParsesAs x (Value zeroNumber)
+  nothing : x.digits ≡ 0 → ParsesAs x (Value zero_number)
   number : (n : Number) → 0 < x.digits → Exactly x n → ParsesAs x (Value n)
   outside : 0 < x.digits → SixDigits x.digits → TooSmall x ⊎ TooLarge x → ParsesAs x Range
   uneven : 0 < x.digits → (SixDigits x.digits → ⊥) → ParsesAs x Syntax
 
 -- what a text is sent as, once read
-abbrev pub sentOf : Parsed → List ℕ
-sentOf (Value n) = written_of n
-sentOf Syntax = []
-sentOf Range = []
+abbrev pub sent_of : Parsed → List ℕ
+sent_of (Value n) = written_of n
+sent_of Syntax = []
+sent_of Range = []

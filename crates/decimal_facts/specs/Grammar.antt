@@ -1,6 +1,6 @@
 -- Document 01, "Decimal numbers": the form as a grammar, and the value of a text of the form.
 use Rattle.std.specs.Prelude.{◌≡◌, Bool, true, cond, List, [], ◌∷◌, ◌++◌, ◌⊎◌, ℕ, ◌+◌, ◌≤◌, length}
-use Rattle.buffer.specs.Byte.{isDigit, every, numeral}
+use Rattle.buffer.specs.Byte.{is_digit, every, numeral}
 use Rattle.decimal.specs.declared.Exact.{Exact}
 
 -- the parts of a text: digits before the point and after it, the mark of the exponent, whether a `-` follows it, and its digits. An empty
@@ -28,14 +28,14 @@ exponent mark below [] = []
 exponent mark below (x ∷ s) = mark ∷ dash below ++ x ∷ s
 
 -- "an optional `-`, digits, optionally `.` and digits, optionally `e` or `E`, an optional `-` and one or two digits"
-unfoldable pub spelledOf : Parts → List ℕ
-spelledOf p = dash p.negative ++ p.whole ++ point p.fraction ++ exponent p.mark p.below p.power
+unfoldable pub spelled_of : Parts → List ℕ
+spelled_of p = dash p.negative ++ p.whole ++ point p.fraction ++ exponent p.mark p.below p.power
 
 -- "Each digit group has at least one; at most six digits stand before the exponent, leading zeros included." The mark is `e` or `E`
 pub record Good (p : Parts) : Type 0 where
-  pub whole-digits : every isDigit p.whole ≡ true
-  pub fraction-digits : every isDigit p.fraction ≡ true
-  pub power-digits : every isDigit p.power ≡ true
+  pub whole_digits : every is_digit p.whole ≡ true
+  pub fraction_digits : every is_digit p.fraction ≡ true
+  pub power_digits : every is_digit p.power ≡ true
   pub some : 1 ≤ length p.whole
   pub six : length p.whole + length p.fraction ≤ 6
   pub two : length p.power ≤ 2

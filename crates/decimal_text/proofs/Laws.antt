@@ -11,7 +11,7 @@ use Rattle.buffer.specs.First.{pick}
 use Rattle.buffer.specs.Byte.{digit, digits2, digits3}
 use Rattle.buffer.proofs.Rules.{each}
 use Rattle.decimal.specs.declared.Number.{Number}
-use Rattle.decimal_text.specs.Written.{signText, trimmed, pointed, digits5, exponentText, written_of, wholeText, twoDecimals}
+use Rattle.decimal_text.specs.Written.{sign_text, trimmed, pointed, digits5, exponent_text, written_of, whole_text, two_decimals}
 
 -- a zero before nothing goes
 pub gone : (x : ℕ) (s : List ℕ) → x ≡ 48 → length (trimmed s) ≡ 0 → length (trimmed (x ∷ s)) ≡ 0
@@ -33,19 +33,19 @@ before x s k h = go (eqb x 48)
     go false = ap suc h
 
 -- what is left is the front
-pub trim-front : (s : List ℕ) → trimmed s ≡ take (length (trimmed s)) s
+pub trim_front : (s : List ℕ) → trimmed s ≡ take (length (trimmed s)) s
 unfolding trimmed
-trim-front [] = refl
-trim-front (x ∷ s) = go (eqb x 48 && eqb (length (trimmed s)) 0) (trim-front s)
+trim_front [] = refl
+trim_front (x ∷ s) = go (eqb x 48 && eqb (length (trimmed s)) 0) (trim_front s)
   where
     go : (b : Bool) → trimmed s ≡ take (length (trimmed s)) s → cond b [] (x ∷ trimmed s) ≡ take (length (cond b [] (x ∷ trimmed s))) (x ∷ s)
     go true h = refl
     go false h = ap (λ (l : List ℕ). x ∷ l) h
 
-pub pointed-some : (x : ℕ) (s : List ℕ) (k : ℕ) → 0 < k → pointed (take k (x ∷ s)) ≡ 46 ∷ take k (x ∷ s)
+pub pointed_some : (x : ℕ) (s : List ℕ) (k : ℕ) → 0 < k → pointed (take k (x ∷ s)) ≡ 46 ∷ take k (x ∷ s)
 unfolding pointed
-pointed-some x s zero h = absurd (omega arith)
-pointed-some x s (suc k) h = refl
+pointed_some x s zero h = absurd (omega arith)
+pointed_some x s (suc k) h = refl
 
 -- ---- which of a mantissa's last digits are zeros
 
@@ -94,61 +94,61 @@ module _ (m : ℕ) where
 
 -- ---- lengths
 
-pub trim-le : (s : List ℕ) → length (trimmed s) ≤ length s
-trim-le s = rw (trim-front s) (rw (length-take (length (trimmed s)) s) (omega arith))
+pub trim_le : (s : List ℕ) → length (trimmed s) ≤ length s
+trim_le s = rw (trim_front s) (rw (length-take (length (trimmed s)) s) (omega arith))
 
-point-le : (s : List ℕ) → length (pointed s) ≤ length s + 1
+point_le : (s : List ℕ) → length (pointed s) ≤ length s + 1
 unfolding pointed
-point-le [] = omega arith
-point-le (x ∷ s) = omega arith
+point_le [] = omega arith
+point_le (x ∷ s) = omega arith
 
-exponent-le : (p : ℕ) → length (exponentText p) ≤ 2
-unfolding exponentText
-exponent-le p = go (ltb p 9)
+exponent_le : (p : ℕ) → length (exponent_text p) ≤ 2
+unfolding exponent_text
+exponent_le p = go (ltb p 9)
   where
     go : (b : Bool) → length (cond b (45 ∷ digit (9 - p) ∷ []) (digit (p - 9) ∷ [])) ≤ 2
     go true = omega arith
     go false = omega arith
 
-sign_le : (b : Bool) → length (signText b) ≡ cond b 1 0
-unfolding signText
+sign_le : (b : Bool) → length (sign_text b) ≡ cond b 1 0
+unfolding sign_text
 sign_le true = refl
 sign_le false = refl
 
-sign-one : (b c : Bool) → length (cond b [] (signText c)) ≤ 1
-unfolding signText
-sign-one true c = omega arith
-sign-one false true = omega arith
-sign-one false false = omega arith
+sign_one : (b c : Bool) → length (cond b [] (sign_text c)) ≤ 1
+unfolding sign_text
+sign_one true c = omega arith
+sign_one false true = omega arith
+sign_one false false = omega arith
 
 -- the written form has at most ten characters, and one more if the number is negative
-pub written-le : (n : Number) → length (written_of n) ≤ 10 + cond n.negative 1 0
+pub written_le : (n : Number) → length (written_of n) ≤ 10 + cond n.negative 1 0
 unfolding written_of
-written-le n = go (eqb n.mantissa 0)
+written_le n = go (eqb n.mantissa 0)
   where
     full : List ℕ
-    full = signText n.negative ++ (digit (n.mantissa / 100000) ∷ []) ++ pointed (trimmed (digits5 n.mantissa)) ++ (101 ∷ []) ++ exponentText n.place
+    full = sign_text n.negative ++ (digit (n.mantissa / 100000) ∷ []) ++ pointed (trimmed (digits5 n.mantissa)) ++ (101 ∷ []) ++ exponent_text n.place
 
     all : length full ≤ 10 + cond n.negative 1 0
-    all = simp length-append (omega (arith, sign_le n.negative, point-le (trimmed (digits5 n.mantissa)), trim-le (digits5 n.mantissa), exponent-le n.place))
+    all = simp length-append (omega (arith, sign_le n.negative, point_le (trimmed (digits5 n.mantissa)), trim_le (digits5 n.mantissa), exponent_le n.place))
 
     go : (b : Bool) → length (pick b (48 ∷ []) full) ≤ 10 + cond n.negative 1 0
     go b = each (λ (l : List ℕ). length l ≤ 10 + cond n.negative 1 0) b (48 ∷ []) full (λ _. omega arith) (λ _. all)
 
-pub written-fits : (n : Number) → length (written_of n) ≤ 24
-written-fits n = omega (arith, written-le n, one n.negative)
+pub written_fits : (n : Number) → length (written_of n) ≤ 24
+written_fits n = omega (arith, written_le n, one n.negative)
   where
     one : (b : Bool) → cond b 1 0 ≤ 1
     one true = omega arith
     one false = omega arith
 
-whole_le : (n : ℕ) → length (wholeText n) ≤ 3
-unfolding wholeText
+whole_le : (n : ℕ) → length (whole_text n) ≤ 3
+unfolding whole_text
 whole_le n =
     each (λ (l : List ℕ). length l ≤ 3) (ltb n 10) (digit n ∷ []) (pick (ltb n 100) (digits2 n) (digits3 n)) (λ _. omega arith)
     (λ _. each (λ (l : List ℕ). length l ≤ 3) (ltb n 100) (digits2 n) (digits3 n) (λ _. omega arith) (λ _. omega arith))
 
 -- the form with two decimals has at most seven characters
-pub two-le : (negative : Bool) (h : ℕ) → length (twoDecimals negative h) ≤ 7
-unfolding twoDecimals
-two-le negative h = simp length-append (omega (arith, whole_le (h / 100), sign-one (eqb h 0) negative))
+pub two_le : (negative : Bool) (h : ℕ) → length (two_decimals negative h) ≤ 7
+unfolding two_decimals
+two_le negative h = simp length-append (omega (arith, whole_le (h / 100), sign_one (eqb h 0) negative))

@@ -1,7 +1,7 @@
--- To compute with these definitions: `unfolding decimal-text-open` opens every one of this crate, and those that they stand on.
-use Rattle.decimal.proofs.Open.{decimal-open}
-use Rattle.decimal_text.specs.Written.{signText, trimmed, pointed, exponentText, written_of, wholeText, twoDecimals}
+-- To compute with these definitions: `unfolding decimal_text_open` opens every one of this crate, and those that they stand on.
+use Rattle.decimal.proofs.Open.{decimal_open}
+use Rattle.decimal_text.specs.Written.{sign_text, trimmed, pointed, exponent_text, written_of, whole_text, two_decimals}
 
-unfoldable pub decimal-text-open : Unit {0}
-unfolding decimal-open signText trimmed pointed exponentText written_of wholeText twoDecimals
-decimal-text-open = tt
+unfoldable pub decimal_text_open : Unit {0}
+unfolding decimal_open sign_text trimmed pointed exponent_text written_of whole_text two_decimals
+decimal_text_open = tt

@@ -5,8 +5,8 @@ use Rattle.buffer.specs.Byte.{digit, digits2, digits3}
 use Rattle.decimal.specs.declared.Number.{Number}
 
 -- `-` if negative
-unfoldable pub signText : Bool → List ℕ
-signText negative = cond negative (45 ∷ []) []
+unfoldable pub sign_text : Bool → List ℕ
+sign_text negative = cond negative (45 ∷ []) []
 
 -- a text of digits after its trailing zeros went
 unfoldable pub trimmed : List ℕ → List ℕ
@@ -23,8 +23,8 @@ abbrev pub digits5 : ℕ → List ℕ
 digits5 m = digit (m / 10000) ∷ digit (m / 1000) ∷ digits3 m
 
 -- "the exponent without leading zeros": place 9 is the exponent 0
-unfoldable pub exponentText : ℕ → List ℕ
-exponentText place = cond (ltb place 9) (45 ∷ digit (9 - place) ∷ []) (digit (place - 9) ∷ [])
+unfoldable pub exponent_text : ℕ → List ℕ
+exponent_text place = cond (ltb place 9) (45 ∷ digit (9 - place) ∷ []) (digit (place - 9) ∷ [])
 
 -- "Written: `0`, or, after `-` if negative, one nonzero digit, then `.` and further digits if any are left after trailing zeros go, then `e`
 -- and the exponent without leading zeros"
@@ -33,12 +33,12 @@ written_of n =
     first
     (eqb n.mantissa 0 ⇒ (48 ∷ [])
     ∷ [])
-    (signText n.negative ++ (digit (n.mantissa / 100000) ∷ []) ++ pointed (trimmed (digits5 n.mantissa)) ++ (101 ∷ []) ++ exponentText n.place)
+    (sign_text n.negative ++ (digit (n.mantissa / 100000) ∷ []) ++ pointed (trimmed (digits5 n.mantissa)) ++ (101 ∷ []) ++ exponent_text n.place)
 
 -- a whole number below 1000 with "no needless leading zero"
-unfoldable pub wholeText : ℕ → List ℕ
-wholeText n = first (ltb n 10 ⇒ (digit n ∷ []) ∷ ltb n 100 ⇒ digits2 n ∷ []) (digits3 n)
+unfoldable pub whole_text : ℕ → List ℕ
+whole_text n = first (ltb n 10 ⇒ (digit n ∷ []) ∷ ltb n 100 ⇒ digits2 n ∷ []) (digits3 n)
 
 -- "with two decimals and no needless leading zero". "`-0` is zero."
-unfoldable pub twoDecimals : Bool → ℕ → List ℕ
-twoDecimals negative h = cond (eqb h 0) [] (signText negative) ++ wholeText (h / 100) ++ (46 ∷ []) ++ digits2 h
+unfoldable pub two_decimals : Bool → ℕ → List ℕ
+two_decimals negative h = cond (eqb h 0) [] (sign_text negative) ++ whole_text (h / 100) ++ (46 ∷ []) ++ digits2 h

@@ -1,10 +1,10 @@
 // Decimal numbers as they are sent (document 01, "Decimal numbers"): the written form, and the form with two decimals.
 ghost use Rattle.std.specs.Prelude.{◌≡◌, [], ◌∷◌, ◌++◌, cond, eqb, length};
 ghost use Rattle.buffer.specs.Text.{text_of, cut};
-ghost use Rattle.decimal_text.specs.Written.{signText, trimmed, pointed, digits5, exponentText, written_of, wholeText, twoDecimals};
+ghost use Rattle.decimal_text.specs.Written.{sign_text, trimmed, pointed, digits5, exponent_text, written_of, whole_text, two_decimals};
 
 fn sign(negative: bool) -> buffer::Text
-    ensures { text_of result ≡ signText negative }
+    ensures { text_of result ≡ sign_text negative }
 {
     if negative {
         return buffer::Text::EMPTY.push(b'-');
@@ -54,7 +54,7 @@ fn with_fraction(t: buffer::Text, m: u32) -> buffer::Text
 
 // The text t, then `e` and the exponent of a place.
 fn with_exponent(t: buffer::Text, place: u8) -> buffer::Text
-    ensures { text_of result ≡ cut (text_of t ++ ((101 ∷ []) ++ exponentText place)) }
+    ensures { text_of result ≡ cut (text_of t ++ ((101 ∷ []) ++ exponent_text place)) }
 {
     if place < 9 {
         return t.push(b'e').push(b'-').push((9 - place) % 10 + 48);
@@ -76,7 +76,7 @@ pub fn written(n: decimal::Number) -> buffer::Text
 
 // The text t, then a number below 1000 with no needless leading zero.
 fn with_whole(t: buffer::Text, n: u16) -> buffer::Text
-    ensures { text_of result ≡ cut (text_of t ++ wholeText n) }
+    ensures { text_of result ≡ cut (text_of t ++ whole_text n) }
 {
     if n < 10 {
         return t.push((n % 10) as u8 + 48);
@@ -91,7 +91,7 @@ fn with_whole(t: buffer::Text, n: u16) -> buffer::Text
 
 // The sign of a count of hundredths: none of zero.
 fn signed(negative: bool, hundredths: u16) -> buffer::Text
-    ensures { text_of result ≡ cond (eqb hundredths 0) [] (signText negative) }
+    ensures { text_of result ≡ cond (eqb hundredths 0) [] (sign_text negative) }
 {
     if hundredths == 0 {
         return buffer::Text::EMPTY;
@@ -101,7 +101,7 @@ fn signed(negative: bool, hundredths: u16) -> buffer::Text
 
 // Hundredths with two decimals and no needless leading zero.
 pub fn two_decimals(negative: bool, hundredths: u16) -> buffer::Text
-    ensures { text_of result ≡ twoDecimals negative hundredths }
+    ensures { text_of result ≡ two_decimals negative hundredths }
 {
     let t = with_whole(signed(negative, hundredths), hundredths / 100);
     t.push(b'.')

@@ -6,17 +6,17 @@ use Rattle.error_texts.specs.declared.ErrorText.{ErrorText}
 use Rattle.error_texts.specs.declared.ErrorText.TheVariants.{Length, Logic, NoDef, Syntax, Range, Error1}
 
 -- the six error texts
-unfoldable pub errorBytes : ErrorText → List ℕ
-errorBytes Length = bytes "LENGTH"
-errorBytes Logic = bytes "_LOGIC"
-errorBytes NoDef = bytes "NO_DEF"
-errorBytes Syntax = bytes "SYNTAX"
-errorBytes Range = bytes "_RANGE"
-errorBytes Error1 = bytes "ERROR1"
+unfoldable pub error_bytes : ErrorText → List ℕ
+error_bytes Length = bytes "LENGTH"
+error_bytes Logic = bytes "_LOGIC"
+error_bytes NoDef = bytes "NO_DEF"
+error_bytes Syntax = bytes "SYNTAX"
+error_bytes Range = bytes "_RANGE"
+error_bytes Error1 = bytes "ERROR1"
 
 -- the table's reply column, 6 to 13; below 6 nothing is sent, and this is not asked
-unfoldable pub errorOf : ℕ → ErrorText
-errorOf number =
+unfoldable pub error_of : ℕ → ErrorText
+error_of number =
     first
     (eqb number 6 ⇒ Length
     ∷ eqb number 7 ⇒ Logic

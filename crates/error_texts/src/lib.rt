@@ -1,7 +1,7 @@
 // The six error texts of V2, and the reply column of "Answer numbers of the text gauge" (document 01).
 ghost use Rattle.std.specs.Prelude.{◌≡◌};
-ghost use Rattle.buffer.specs.Byte.{sameText};
-ghost use Rattle.error_texts.specs.Texts.{errorBytes, errorOf};
+ghost use Rattle.buffer.specs.Byte.{same_text};
+ghost use Rattle.error_texts.specs.Texts.{error_bytes, error_of};
 
 // The six error texts of V2.
 #[derive(Drop)]
@@ -16,7 +16,7 @@ pub enum ErrorText {
 
 // The six bytes of an error text.
 pub fn error_bytes(e: ErrorText) -> [u8; 6]
-    ensures { result ≡ errorBytes e }
+    ensures { result ≡ error_bytes e }
 {
     match e {
         ErrorText::Length => [b'L', b'E', b'N', b'G', b'T', b'H'],
@@ -30,7 +30,7 @@ pub fn error_bytes(e: ErrorText) -> [u8; 6]
 
 // Whether a text is this error text.
 pub fn is_error_text(s: &[u8], e: ErrorText) -> bool
-    ensures { result ≡ sameText s.now (errorBytes e) }
+    ensures { result ≡ same_text s.now (error_bytes e) }
 {
     let text = error_bytes(e);
     buffer::is_same(s, &text)
@@ -38,7 +38,7 @@ pub fn is_error_text(s: &[u8], e: ErrorText) -> bool
 
 // The error text of an answer number from 6 to 13.
 pub fn error_of(number: u8) -> ErrorText
-    ensures { result ≡ errorOf number }
+    ensures { result ≡ error_of number }
 {
     match number {
         6 => ErrorText::Length,

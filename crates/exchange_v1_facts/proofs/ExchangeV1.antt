@@ -8,123 +8,123 @@ use native.Mathlib.Omega.{arith}
 use borrow.Author.Tests.{eq-eqb, eqb-true, eqb-false, le-ltb}
 use lib.Dec.{eqb}
 use Rattle.buffer.specs.First.{pick}
-use Rattle.buffer.specs.Byte.{at, within, every, sameText}
+use Rattle.buffer.specs.Byte.{at, within, every, same_text}
 use Rattle.buffer.proofs.Laws.{within_in}
 use Rattle.buffer.proofs.Rules.{each}
-use Rattle.frames.specs.Frame.{isLetter, dataFrom, headV1, frame_of}
+use Rattle.frames.specs.Frame.{is_letter, data_from, head_v1, frame_of}
 use Rattle.frames.specs.declared.Frame.TheVariants.{V1}
-use Rattle.frame_writer.specs.Written.{frameV1}
-use Rattle.error_texts.specs.Texts.{errorBytes}
-use Rattle.frame_writer.specs.Error.{errorLetterV1, errorDataV1, errorHeadV1}
+use Rattle.frame_writer.specs.Written.{frame_v1}
+use Rattle.error_texts.specs.Texts.{error_bytes}
+use Rattle.frame_writer.specs.Error.{error_letter_v1, error_data_v1, error_head_v1}
 use Rattle.error_texts.specs.declared.ErrorText.{ErrorText}
 use Rattle.error_texts.specs.declared.ErrorText.TheVariants.{Logic, NoDef, Range, Error1}
-use Rattle.readings.specs.Reading.{faultyPressure}
-use Rattle.readings.specs.Measure.{measureText}
-use Rattle.requests.specs.AskV1.{askV1}
+use Rattle.readings.specs.Reading.{faulty_pressure}
+use Rattle.readings.specs.Measure.{measure_text}
+use Rattle.requests.specs.AskV1.{ask_v1}
 use Rattle.requests.specs.declared.RequestV1.{RequestV1}
 use Rattle.requests.specs.declared.RequestV1.TheVariants.{Measure, ReadFactor, Unlock, SetFactor, ReadUnit, SetUnit}
 use Rattle.requests.specs.declared.AskV1.TheVariants.{Asks}
-use Rattle.request_texts.specs.RequestText.{digits6, letterV1, dataV1, headForV1}
-use Rattle.settings.specs.Units.{unitCode}
+use Rattle.request_texts.specs.RequestText.{digits6, letter_v1, data_v1, head_for_v1}
+use Rattle.settings.specs.Units.{unit_code}
 use Rattle.printed_facts.proofs.Sendable as printed
 use Rattle.printed_facts.proofs.Sendable as printed
-use Rattle.replies_v1.specs.ReplyV1.{valueV1, readV1}
+use Rattle.replies_v1.specs.ReplyV1.{value_v1, read_v1}
 use Rattle.replies_v1.specs.declared.ReplyV1.TheVariants.{Reads, Done, Error}
 use Rattle.replies_v1.specs.declared.ReadV1.{ReadV1}
 use Rattle.replies_v1.specs.declared.ReadV1.TheVariants.{Read}
 use Rattle.gauge_rules.specs.State.{State}
-use Rattle.gauge_rules_v1.specs.RulesV1.{factorNumber, grantV1, textV1, repeats}
-use Rattle.gauge_table.specs.Reply.{errorV1, acceptedV1, replyOf}
-use Rattle.gauge_table.specs.Decided.{decidedV1}
-use Rattle.gauge_table.proofs.Numbers.{number-v1}
+use Rattle.gauge_rules_v1.specs.RulesV1.{factor_number, grant_v1, text_v1, repeats}
+use Rattle.gauge_table.specs.Reply.{error_v1, accepted_v1, reply_of}
+use Rattle.gauge_table.specs.Decided.{decided_v1}
+use Rattle.gauge_table.proofs.Numbers.{number_v1}
 use Rattle.gauge_table.specs.Table.{number_of}
 use Rattle.gauge_table.specs.After.{answer_of}
 use Rattle.gauge_facts.specs.Sound.{SoundState}
-use Rattle.exchange_v1_facts.specs.HeldV1.{roundedV1, heldV1, errorTextV1, expectedV1}
+use Rattle.exchange_v1_facts.specs.HeldV1.{rounded_v1, held_v1, error_text_v1, expected_v1}
 use Rattle.exchange_v1_facts.specs.Theorems.{NearestHeld, AnswerReadV1}
-use Rattle.exchange_v1_facts.proofs.Lemmas.Rows.{Seen, seen, frame-read, digits-read}
-use Rattle.exchange_v1_facts.proofs.Lemmas.Values.{six-are, echo-held, factor-held, unit-held, fault-held, measure-digits, pressure-held}
+use Rattle.exchange_v1_facts.proofs.Lemmas.Rows.{Seen, seen, frame_read, digits_read}
+use Rattle.exchange_v1_facts.proofs.Lemmas.Values.{six_are, echo_held, factor_held, unit_held, fault_held, measure_digits, pressure_held_lem}
 
 -- ---- a set's reply
 
 -- "Set replies repeat the request.": the repeated request is read as done
-pub echo-read-v1 : (a : ℕ) (r : RequestV1) → within 1 999 a ≡ true → repeats r ≡ true → readV1 a r (frameV1 (headForV1 a r) (dataV1 r)) ≡ Read Done
-unfolding repeats dataV1 valueV1 every within
-echo-read-v1 a Measure i e = absurd (false≢true e)
-echo-read-v1 a ReadFactor i e = absurd (false≢true e)
-echo-read-v1 a Unlock i e = digits-read a Unlock (49 ∷ []) i refl (omega arith) ∙ echo-held Unlock
-echo-read-v1 a (SetFactor n) i e = digits-read a (SetFactor n) (digits6 n) i (six-are n) (omega arith) ∙ echo-held (SetFactor n)
-echo-read-v1 a ReadUnit i e = absurd (false≢true e)
-echo-read-v1 a (SetUnit u) i e = digits-read a (SetUnit u) (digits6 (unitCode u)) i (six-are (unitCode u)) (omega arith) ∙ echo-held (SetUnit u)
+pub echo_read_v1 : (a : ℕ) (r : RequestV1) → within 1 999 a ≡ true → repeats r ≡ true → read_v1 a r (frame_v1 (head_for_v1 a r) (data_v1 r)) ≡ Read Done
+unfolding repeats data_v1 value_v1 every within
+echo_read_v1 a Measure i e = absurd (false≢true e)
+echo_read_v1 a ReadFactor i e = absurd (false≢true e)
+echo_read_v1 a Unlock i e = digits_read a Unlock (49 ∷ []) i refl (omega arith) ∙ echo_held Unlock
+echo_read_v1 a (SetFactor n) i e = digits_read a (SetFactor n) (digits6 n) i (six_are n) (omega arith) ∙ echo_held (SetFactor n)
+echo_read_v1 a ReadUnit i e = absurd (false≢true e)
+echo_read_v1 a (SetUnit u) i e = digits_read a (SetUnit u) (digits6 (unit_code u)) i (six_are (unit_code u)) (omega arith) ∙ echo_held (SetUnit u)
 
 -- ---- errors
 
 module _ (a : ℕ) (r : RequestV1) (i : within 1 999 a ≡ true) where
   -- "V1's 13 sends `M` with the data `1`."
-  fault-read : r ≡ Measure → readV1 a r (errorV1 13 (headForV1 a r)) ≡ Read (Error Error1)
-  unfolding errorHeadV1 errorLetterV1 errorDataV1 valueV1 every within letterV1 pick
-  fault-read e = rw e (digits-read a Measure (49 ∷ []) i refl (omega arith) ∙ fault-held)
+  fault_read : r ≡ Measure → read_v1 a r (error_v1 13 (head_for_v1 a r)) ≡ Read (Error Error1)
+  unfolding error_head_v1 error_letter_v1 error_data_v1 value_v1 every within letter_v1 pick
+  fault_read e = rw e (digits_read a Measure (49 ∷ []) i refl (omega arith) ∙ fault_held)
 
   -- `NO_DEF` for letter and data, whatever was asked
-  no-def-read : readV1 a r (errorV1 8 (headForV1 a r)) ≡ Read (Error NoDef)
-  unfolding errorHeadV1 errorLetterV1 errorDataV1 errorBytes isLetter every within sameText pick
-  no-def-read = frame-read a 78 r (79 ∷ 95 ∷ 68 ∷ 69 ∷ 70 ∷ []) (record { address-in = i; letter-in = refl; bytes-in = refl; few = omega arith })
+  no_def_read : read_v1 a r (error_v1 8 (head_for_v1 a r)) ≡ Read (Error NoDef)
+  unfolding error_head_v1 error_letter_v1 error_data_v1 error_bytes is_letter every within same_text pick
+  no_def_read = frame_read a 78 r (79 ∷ 95 ∷ 68 ∷ 69 ∷ 70 ∷ []) (record { address_in = i; letter_in = refl; bytes_in = refl; few = omega arith })
 
   -- the letter and `_RANGE`
-  range-read : readV1 a r (errorV1 11 (headForV1 a r)) ≡ Read (Error Range)
-  unfolding errorHeadV1 errorLetterV1 errorDataV1 errorBytes every within sameText pick
-  range-read =
-      frame-read a (letterV1 r) r (95 ∷ 82 ∷ 65 ∷ 78 ∷ 71 ∷ 69 ∷ []) (record { address-in = i; letter-in = printed.letter-in r; bytes-in = refl; few = omega arith })
-      ∙ rw (eq-eqb (letterV1 r) (letterV1 r) refl)
+  range_read : read_v1 a r (error_v1 11 (head_for_v1 a r)) ≡ Read (Error Range)
+  unfolding error_head_v1 error_letter_v1 error_data_v1 error_bytes every within same_text pick
+  range_read =
+      frame_read a (letter_v1 r) r (95 ∷ 82 ∷ 65 ∷ 78 ∷ 71 ∷ 69 ∷ []) (record { address_in = i; letter_in = printed.letter_in r; bytes_in = refl; few = omega arith })
+      ∙ rw (eq-eqb (letter_v1 r) (letter_v1 r) refl)
 
   -- any other number: the letter and `_LOGIC`
-  logic-read : (k : ℕ) → eqb k 13 ≡ false → eqb k 11 ≡ false → eqb k 8 ≡ false → readV1 a r (errorV1 k (headForV1 a r)) ≡ Read (Error Logic)
-  unfolding errorHeadV1 errorLetterV1 errorDataV1 errorBytes every within sameText pick
-  logic-read k p q z =
+  logic_read : (k : ℕ) → eqb k 13 ≡ false → eqb k 11 ≡ false → eqb k 8 ≡ false → read_v1 a r (error_v1 k (head_for_v1 a r)) ≡ Read (Error Logic)
+  unfolding error_head_v1 error_letter_v1 error_data_v1 error_bytes every within same_text pick
+  logic_read k p q z =
       rw (p, q, z)
-      (frame-read a (letterV1 r) r (95 ∷ 76 ∷ 79 ∷ 71 ∷ 73 ∷ 67 ∷ []) (record { address-in = i; letter-in = printed.letter-in r; bytes-in = refl; few = omega arith })
-      ∙ rw (eq-eqb (letterV1 r) (letterV1 r) refl))
+      (frame_read a (letter_v1 r) r (95 ∷ 76 ∷ 79 ∷ 71 ∷ 73 ∷ 67 ∷ []) (record { address_in = i; letter_in = printed.letter_in r; bytes_in = refl; few = omega arith })
+      ∙ rw (eq-eqb (letter_v1 r) (letter_v1 r) refl))
 
   -- an error's reply is read as its error, whatever the number; 13 answers a measurement only
-  pub error-read-v1 : (k : ℕ) → (k ≡ 13 → r ≡ Measure) → readV1 a r (errorV1 k (headForV1 a r)) ≡ Read (Error (errorTextV1 k))
-  unfolding errorTextV1
-  error-read-v1 k m =
-      each Reads-as (eqb k 13) _ _ (λ e. let z = eqb-true k 13 e in rw z (fault-read (m z)))
-      (λ p. each Reads-as (eqb k 11) _ _ (λ e. rw (eqb-true k 11 e) range-read)
-      (λ q. each Reads-as (eqb k 8) _ _ (λ e. rw (eqb-true k 8 e) no-def-read) (λ z. logic-read k p q z)))
+  pub error_read_v1 : (k : ℕ) → (k ≡ 13 → r ≡ Measure) → read_v1 a r (error_v1 k (head_for_v1 a r)) ≡ Read (Error (error_text_v1 k))
+  unfolding error_text_v1
+  error_read_v1 k m =
+      each Reads-as (eqb k 13) _ _ (λ e. let z = eqb-true k 13 e in rw z (fault_read (m z)))
+      (λ p. each Reads-as (eqb k 11) _ _ (λ e. rw (eqb-true k 11 e) range_read)
+      (λ q. each Reads-as (eqb k 8) _ _ (λ e. rw (eqb-true k 8 e) no_def_read) (λ z. logic_read k p q z)))
     where
       Reads-as : ErrorText → Type 0
-      Reads-as t = readV1 a r (errorV1 k (headForV1 a r)) ≡ Read (Error t)
+      Reads-as t = read_v1 a r (error_v1 k (head_for_v1 a r)) ≡ Read (Error t)
 
 -- ---- values
 
 -- the pressure is told as the nearest four digits, the upper of two that are as near, with its exponent plus 20; 10000 is told as 1000 with the
 -- exponent one higher
-pub nearest-held : NearestHeld
-unfolding roundedV1 pick
-nearest-held n f = (q, record { low = omega arith; high = omega arith }, go (eqb q 10000) refl)
+pub nearest_held : NearestHeld
+unfolding rounded_v1 pick
+nearest_held n f = (q, record { low = omega arith; high = omega arith }, go (eqb q 10000) refl)
   where
     q : ℕ
     q = (n.mantissa + 50) / 100
 
-    go : (b : Bool) → eqb q 10000 ≡ b → ((q ≤ 9999) × (roundedV1 n ≡ Reads q (n.place + 11))) ⊎ ((q ≡ 10000) × (roundedV1 n ≡ Reads 1000 (n.place + 12)))
+    go : (b : Bool) → eqb q 10000 ≡ b → ((q ≤ 9999) × (rounded_v1 n ≡ Reads q (n.place + 11))) ⊎ ((q ≡ 10000) × (rounded_v1 n ≡ Reads 1000 (n.place + 12)))
     go true h = inr (eqb-true q 10000 h, rw h)
     go false h = inl (omega (arith, eqb-false q 10000 h, f.high), rw h)
 
 -- the reply to a request that reads is read as what the gauge holds
-pub reply-read-v1 : (g : State) (a : ℕ) (r : RequestV1) → SoundState g → within 1 999 a ≡ true → repeats r ≡ false → readV1 a r (frameV1 (headForV1 a r) (textV1 g r)) ≡ Read (heldV1 g r)
-unfolding repeats textV1 heldV1 valueV1
-reply-read-v1 g a Measure f i e =
-    let d = measure-digits g.readings.p0 in
-    digits-read a Measure (measureText g.readings.p0) i d.0 d.1 ∙ pressure-held g.readings.p0 f.readings.p0
-reply-read-v1 g a ReadFactor f i e =
-    digits-read a ReadFactor (digits6 g.settings.factor) i (six-are g.settings.factor) (omega arith)
-    ∙ factor-held g.settings.factor f.settings.factor.0 f.settings.factor.1
-reply-read-v1 g a ReadUnit f i e =
-    digits-read a ReadUnit (digits6 (unitCode g.settings.unit)) i (six-are (unitCode g.settings.unit)) (omega arith) ∙ unit-held g.settings.unit
-reply-read-v1 g a Unlock f i e = absurd (true≢false e)
-reply-read-v1 g a (SetFactor n) f i e = absurd (true≢false e)
-reply-read-v1 g a (SetUnit u) f i e = absurd (true≢false e)
+pub reply_read_v1 : (g : State) (a : ℕ) (r : RequestV1) → SoundState g → within 1 999 a ≡ true → repeats r ≡ false → read_v1 a r (frame_v1 (head_for_v1 a r) (text_v1 g r)) ≡ Read (held_v1 g r)
+unfolding repeats text_v1 held_v1 value_v1
+reply_read_v1 g a Measure f i e =
+    let d = measure_digits g.readings.p0 in
+    digits_read a Measure (measure_text g.readings.p0) i d.0 d.1 ∙ pressure_held_lem g.readings.p0 f.readings.p0
+reply_read_v1 g a ReadFactor f i e =
+    digits_read a ReadFactor (digits6 g.settings.factor) i (six_are g.settings.factor) (omega arith)
+    ∙ factor_held g.settings.factor f.settings.factor.0 f.settings.factor.1
+reply_read_v1 g a ReadUnit f i e =
+    digits_read a ReadUnit (digits6 (unit_code g.settings.unit)) i (six_are (unit_code g.settings.unit)) (omega arith) ∙ unit_held g.settings.unit
+reply_read_v1 g a Unlock f i e = absurd (true≢false e)
+reply_read_v1 g a (SetFactor n) f i e = absurd (true≢false e)
+reply_read_v1 g a (SetUnit u) f i e = absurd (true≢false e)
 
 -- ---- the whole way
 
@@ -132,19 +132,19 @@ reply-read-v1 g a (SetUnit u) f i e = absurd (true≢false e)
 abbrev Number-of : RequestV1 → ℕ → Type 0
 Number-of r k = (within 1 5 k ≡ false) × (k ≡ 13 → r ≡ Measure)
 
-grant-number : (g : State) (r : RequestV1) → Number-of r (grantV1 g r)
-unfolding grantV1 factorNumber within
-grant-number g Measure = each (Number-of Measure) (faultyPressure g.readings.p0) 13 0 (λ _. (refl, λ _. refl)) (λ _. (refl, λ _. refl))
-grant-number g ReadFactor = (refl, λ e. absurd (omega arith))
-grant-number g Unlock = (refl, λ e. absurd (omega arith))
-grant-number g (SetFactor n) =
+grant_number : (g : State) (r : RequestV1) → Number-of r (grant_v1 g r)
+unfolding grant_v1 factor_number within
+grant_number g Measure = each (Number-of Measure) (faulty_pressure g.readings.p0) 13 0 (λ _. (refl, λ _. refl)) (λ _. (refl, λ _. refl))
+grant_number g ReadFactor = (refl, λ e. absurd (omega arith))
+grant_number g Unlock = (refl, λ e. absurd (omega arith))
+grant_number g (SetFactor n) =
     each (Number-of (SetFactor n)) (not g.unlocked) 12 _ (λ _. (refl, λ e. absurd (omega arith)))
     (λ _. each (Number-of (SetFactor n)) _ 11 0 (λ _. (refl, λ e. absurd (omega arith))) (λ _. (refl, λ e. absurd (omega arith))))
-grant-number g ReadUnit = (refl, λ e. absurd (omega arith))
-grant-number g (SetUnit u) = (refl, λ e. absurd (omega arith))
+grant_number g ReadUnit = (refl, λ e. absurd (omega arith))
+grant_number g (SetUnit u) = (refl, λ e. absurd (omega arith))
 
-done_held : (g : State) (r : RequestV1) → repeats r ≡ true → heldV1 g r ≡ Done
-unfolding repeats heldV1
+done_held : (g : State) (r : RequestV1) → repeats r ≡ true → held_v1 g r ≡ Done
+unfolding repeats held_v1
 done_held g Measure e = absurd (false≢true e)
 done_held g ReadFactor e = absurd (false≢true e)
 done_held g Unlock e = refl
@@ -158,48 +158,48 @@ module _
     (sound : SoundState g)
     (own : a ≡ g.settings.address)
     (enough : 64 ≤ room)
-    (sent : s ≡ frameV1 (headForV1 a r) (dataV1 r))
-    (framed : frame_of s ≡ V1 (headForV1 a r))
-    (asked : askV1 (letterV1 r) (dataFrom 4 s) ≡ Asks r)
+    (sent : s ≡ frame_v1 (head_for_v1 a r) (data_v1 r))
+    (framed : frame_of s ≡ V1 (head_for_v1 a r))
+    (asked : ask_v1 (letter_v1 r) (data_from 4 s) ≡ Asks r)
   where
     inside : within 1 999 a ≡ true
     inside = let h = sound.settings.address in within_in 1 999 a (omega (arith, own, h.0)) (omega (arith, own, h.1))
 
-    was-seen : Seen a (letterV1 r) s
-    was-seen = seen a (letterV1 r) s framed
+    was-seen : Seen a (letter_v1 r) s
+    was-seen = seen a (letter_v1 r) s framed
 
-    asks : askV1 (at s 3) (dataFrom 4 s) ≡ Asks r
+    asks : ask_v1 (at s 3) (data_from 4 s) ≡ Asks r
     asks = rw was-seen.letter asked
 
-    number_is : number_of g room s ≡ grantV1 g r
-    unfolding decidedV1
+    number_is : number_of g room s ≡ grant_v1 g r
+    unfolding decided_v1
     number_is =
-        number-v1 s g room (le-ltb room 64 enough) was-seen.framed (rw (was-seen.address, own, eq-eqb g.settings.address g.settings.address refl)) was-seen.letter-in
+        number_v1 s g room (le-ltb room 64 enough) was-seen.framed (rw (was-seen.address, own, eq-eqb g.settings.address g.settings.address refl)) was-seen.letter_in
         ∙ rw asks
 
-    head-is : headV1 s ≡ headForV1 a r
-    unfolding headV1
-    head-is = rw (was-seen.address, was-seen.letter)
+    head_is : head_v1 s ≡ head_for_v1 a r
+    unfolding head_v1
+    head_is = rw (was-seen.address, was-seen.letter)
 
-    accepted : eqb (grantV1 g r) 0 ≡ true → replyOf g s (grantV1 g r) ≡ pick (repeats r) s (frameV1 (headForV1 a r) (textV1 g r))
-    unfolding replyOf acceptedV1 pick
-    accepted e = rw ((grant-number g r).0, was-seen.letter-in, e, asks, head-is)
+    accepted : eqb (grant_v1 g r) 0 ≡ true → reply_of g s (grant_v1 g r) ≡ pick (repeats r) s (frame_v1 (head_for_v1 a r) (text_v1 g r))
+    unfolding reply_of accepted_v1 pick
+    accepted e = rw ((grant_number g r).0, was-seen.letter_in, e, asks, head_is)
 
-    refused : eqb (grantV1 g r) 0 ≡ false → replyOf g s (grantV1 g r) ≡ errorV1 (grantV1 g r) (headForV1 a r)
-    unfolding replyOf pick
-    refused e = rw ((grant-number g r).0, was-seen.letter-in, e, head-is)
+    refused : eqb (grant_v1 g r) 0 ≡ false → reply_of g s (grant_v1 g r) ≡ error_v1 (grant_v1 g r) (head_for_v1 a r)
+    unfolding reply_of pick
+    refused e = rw ((grant_number g r).0, was-seen.letter_in, e, head_is)
 
-    accepted-read : readV1 a r (pick (repeats r) s (frameV1 (headForV1 a r) (textV1 g r))) ≡ Read (heldV1 g r)
-    accepted-read =
-        each (λ (t : List ℕ). readV1 a r t ≡ Read (heldV1 g r)) (repeats r) _ _
-        (λ e. rw (sent, done_held g r e) (echo-read-v1 a r inside e))
-        (λ e. reply-read-v1 g a r sound inside e)
+    accepted_read : read_v1 a r (pick (repeats r) s (frame_v1 (head_for_v1 a r) (text_v1 g r))) ≡ Read (held_v1 g r)
+    accepted_read =
+        each (λ (t : List ℕ). read_v1 a r t ≡ Read (held_v1 g r)) (repeats r) _ _
+        (λ e. rw (sent, done_held g r e) (echo_read_v1 a r inside e))
+        (λ e. reply_read_v1 g a r sound inside e)
 
 -- a request that was sent, answered with at least 64 bytes lent and read again
-pub answer-read-v1 : AnswerReadV1
-unfolding answer_of expectedV1
-answer-read-v1 g room a r s sound own enough sent framed asked =
+pub answer_read_v1 : AnswerReadV1
+unfolding answer_of expected_v1
+answer_read_v1 g room a r s sound own enough sent framed asked =
     rw (number_is g room a r s sound own enough sent framed asked)
-    (each (λ (x : ReadV1). readV1 a r (replyOf g s (grantV1 g r)) ≡ x) (eqb (grantV1 g r) 0) _ _
-    (λ e. rw (accepted g room a r s sound own enough sent framed asked e) (accepted-read g room a r s sound own enough sent framed asked))
-    (λ e. rw (refused g room a r s sound own enough sent framed asked e) (error-read-v1 a r (inside g room a r s sound own enough sent framed asked) (grantV1 g r) (grant-number g r).1)))
+    (each (λ (x : ReadV1). read_v1 a r (reply_of g s (grant_v1 g r)) ≡ x) (eqb (grant_v1 g r) 0) _ _
+    (λ e. rw (accepted g room a r s sound own enough sent framed asked e) (accepted_read g room a r s sound own enough sent framed asked))
+    (λ e. rw (refused g room a r s sound own enough sent framed asked e) (error_read_v1 a r (inside g room a r s sound own enough sent framed asked) (grant_v1 g r) (grant_number g r).1)))

@@ -13,35 +13,35 @@ use Rattle.replies_v1.specs.declared.ReplyV1.TheVariants.{Reads, Factor, Unit, D
 use Rattle.replies_v1.specs.declared.ReadV1.{ReadV1}
 use Rattle.replies_v1.specs.declared.ReadV1.TheVariants.{Read}
 use Rattle.gauge_rules.specs.State.{State}
-use Rattle.gauge_rules_v1.specs.RulesV1.{grantV1}
+use Rattle.gauge_rules_v1.specs.RulesV1.{grant_v1}
 
 -- a measured pressure as V1 tells it: q are its hundreds, "rounded half up to four digits", with "exponent plus 20", where place 9 is the exponent 0.
 -- A carry into a fifth digit makes q 10000: that is 1000, with the exponent one higher.
-unfoldable pub roundedV1 : Number → ReplyV1
-roundedV1 n =
+unfoldable pub rounded_v1 : Number → ReplyV1
+rounded_v1 n =
     let q = (n.mantissa + 50) / 100 in
     first (eqb q 10000 ⇒ Reads 1000 (n.place + 12) ∷ []) (Reads q (n.place + 11))
 
 -- a faulty sensor has no value: "`M` with the data `1`", which the master reads as the error
-unfoldable pub pressureHeld : Pressure → ReplyV1
-pressureHeld (Measured n) = roundedV1 n
-pressureHeld Pressure.UnderRange = ReplyV1.UnderRange
-pressureHeld Pressure.OverRange = ReplyV1.OverRange
-pressureHeld Faulty = Error Error1
+unfoldable pub pressure_held : Pressure → ReplyV1
+pressure_held (Measured n) = rounded_v1 n
+pressure_held Pressure.UnderRange = ReplyV1.UnderRange
+pressure_held Pressure.OverRange = ReplyV1.OverRange
+pressure_held Faulty = Error Error1
 
 -- what the gauge holds for a request
-unfoldable pub heldV1 : State → RequestV1 → ReplyV1
-heldV1 g Measure = pressureHeld g.readings.p0
-heldV1 g ReadFactor = Factor g.settings.factor
-heldV1 g ReadUnit = Unit g.settings.unit
-heldV1 g Unlock = Done
-heldV1 g (SetFactor n) = Done
-heldV1 g (SetUnit u) = Done
+unfoldable pub held_v1 : State → RequestV1 → ReplyV1
+held_v1 g Measure = pressure_held g.readings.p0
+held_v1 g ReadFactor = Factor g.settings.factor
+held_v1 g ReadUnit = Unit g.settings.unit
+held_v1 g Unlock = Done
+held_v1 g (SetFactor n) = Done
+held_v1 g (SetUnit u) = Done
 
 -- the error that the master reads for each number: 13 FAULT, 11 RANGE, 8 NO_DEF, and LOGIC for the others
-unfoldable pub errorTextV1 : ℕ → ErrorText
-errorTextV1 k = first (eqb k 13 ⇒ Error1 ∷ eqb k 11 ⇒ Range ∷ eqb k 8 ⇒ NoDef ∷ []) Logic
+unfoldable pub error_text_v1 : ℕ → ErrorText
+error_text_v1 k = first (eqb k 13 ⇒ Error1 ∷ eqb k 11 ⇒ Range ∷ eqb k 8 ⇒ NoDef ∷ []) Logic
 
 -- what the master is to read: what the gauge holds, where it accepts the request, and otherwise its error
-unfoldable pub expectedV1 : State → RequestV1 → ReadV1
-expectedV1 g r = pick (eqb (grantV1 g r) 0) (Read (heldV1 g r)) (Read (Error (errorTextV1 (grantV1 g r))))
+unfoldable pub expected_v1 : State → RequestV1 → ReadV1
+expected_v1 g r = pick (eqb (grant_v1 g r) 0) (Read (held_v1 g r)) (Read (Error (error_text_v1 (grant_v1 g r))))

@@ -1,61 +1,61 @@
 -- What is proved here, each statement as a type; proofs/ has the proofs.
 use Rattle.std.specs.Prelude.{◌≡◌, List, ◌⊎◌, ℕ, ◌+◌, ◌≤◌}
-use Rattle.frames.specs.Frame.{dataFrom, frame_of}
+use Rattle.frames.specs.Frame.{data_from, frame_of}
 use Rattle.frames.specs.declared.Frame.TheVariants.{V1}
-use Rattle.frame_writer.specs.Written.{frameV1}
+use Rattle.frame_writer.specs.Written.{frame_v1}
 use Rattle.error_texts.specs.declared.ErrorText.TheVariants.{Logic}
 use Rattle.decimal.specs.declared.Number.{Number}
 use Rattle.decimal_facts.specs.Canonical.{Full}
 use Rattle.settings.specs.declared.PressureUnit.TheVariants.{Mbar, Torr}
 use Rattle.readings_facts.specs.HalfUp.{Nearest}
-use Rattle.requests.specs.AskV1.{askV1}
+use Rattle.requests.specs.AskV1.{ask_v1}
 use Rattle.requests.specs.declared.RequestV1.{RequestV1}
 use Rattle.requests.specs.declared.RequestV1.TheVariants.{Measure, ReadFactor, SetFactor, ReadUnit, SetUnit}
 use Rattle.requests.specs.declared.AskV1.TheVariants.{Asks}
-use Rattle.request_texts.specs.RequestText.{letterV1, dataV1, headForV1}
-use Rattle.replies_v1.specs.ReplyV1.{readV1}
+use Rattle.request_texts.specs.RequestText.{letter_v1, data_v1, head_for_v1}
+use Rattle.replies_v1.specs.ReplyV1.{read_v1}
 use Rattle.replies_v1.specs.declared.ReplyV1.TheVariants.{Reads, Factor, Unit, Done, Error}
 use Rattle.replies_v1.specs.declared.ReadV1.TheVariants.{Read}
 use Rattle.sources.specs.declared.Profile.TheVariants.{Standard}
-use Rattle.settings.specs.Limits.{limitsOf}
+use Rattle.settings.specs.Limits.{limits_of}
 use Rattle.gauge_rules.specs.State.{State, fresh}
 use Rattle.gauge_table.specs.After.{answer_of}
 use Rattle.gauge_facts.specs.Sound.{SoundState}
-use Rattle.exchange_v1_facts.specs.HeldV1.{roundedV1, expectedV1}
+use Rattle.exchange_v1_facts.specs.HeldV1.{rounded_v1, expected_v1}
 use Rattle.exchange_v1_facts.specs.Examples.{number, asked}
 
 -- "four mantissa digits and exponent plus 20, rounded half up to four digits": the pressure is told as the nearest four digits, the upper of two
 -- that are as near, with its exponent plus 20; 10000 is told as 1000 with the exponent one higher
 abbrev pub NearestHeld : Type 0
 NearestHeld = (n : Number) → Full n
-    → (q : ℕ) × Nearest n.mantissa q × (((q ≤ 9999) × (roundedV1 n ≡ Reads q (n.place + 11))) ⊎ ((q ≡ 10000) × (roundedV1 n ≡ Reads 1000 (n.place + 12))))
+    → (q : ℕ) × Nearest n.mantissa q × (((q ≤ 9999) × (rounded_v1 n ≡ Reads q (n.place + 11))) ⊎ ((q ≡ 10000) × (rounded_v1 n ≡ Reads 1000 (n.place + 12))))
 
 -- a request that was sent to the gauge's own address as the bytes s, which the gauge reads as that request, answered with at least 64 bytes lent
 -- and read again: the value, or the error, that the gauge holds
 abbrev pub AnswerReadV1 : Type 0
 AnswerReadV1 = (g : State) (room a : ℕ) (r : RequestV1) (s : List ℕ) → SoundState g → a ≡ g.settings.address → 64 ≤ room
-    → s ≡ frameV1 (headForV1 a r) (dataV1 r) → frame_of s ≡ V1 (headForV1 a r) → askV1 (letterV1 r) (dataFrom 4 s) ≡ Asks r
-    → readV1 a r (answer_of g room s).reply ≡ expectedV1 g r
+    → s ≡ frame_v1 (head_for_v1 a r) (data_v1 r) → frame_of s ≡ V1 (head_for_v1 a r) → ask_v1 (letter_v1 r) (data_from 4 s) ≡ Asks r
+    → read_v1 a r (answer_of g room s).reply ≡ expected_v1 g r
 
 -- ---- worked cases
 
 -- half down and half up, without and with a carry; the least, 1e-9, and the largest, 9.99999e9
 abbrev pub RoundedCases : Type 0
-RoundedCases = (roundedV1 (number 123449 9) ≡ Reads 1234 20)
-    × (roundedV1 (number 123450 9) ≡ Reads 1235 20)
-    × (roundedV1 (number 999949 9) ≡ Reads 9999 20)
-    × (roundedV1 (number 999950 9) ≡ Reads 1000 21)
-    × (roundedV1 (number 100000 0) ≡ Reads 1000 11)
-    × (roundedV1 (number 999999 18) ≡ Reads 1000 30)
+RoundedCases = (rounded_v1 (number 123449 9) ≡ Reads 1234 20)
+    × (rounded_v1 (number 123450 9) ≡ Reads 1235 20)
+    × (rounded_v1 (number 999949 9) ≡ Reads 9999 20)
+    × (rounded_v1 (number 999950 9) ≡ Reads 1000 21)
+    × (rounded_v1 (number 100000 0) ≡ Reads 1000 11)
+    × (rounded_v1 (number 999999 18) ≡ Reads 1000 30)
 
 -- a gauge at the start: 1 mbar, the factor 1.00, mbar, and locked
 abbrev pub StartCases : Type 0
-StartCases = (expectedV1 (fresh (limitsOf Standard)) Measure ≡ Read (Reads 1000 20))
-    × (expectedV1 (fresh (limitsOf Standard)) ReadFactor ≡ Read (Factor 100))
-    × (expectedV1 (fresh (limitsOf Standard)) ReadUnit ≡ Read (Unit Mbar))
-    × (expectedV1 (fresh (limitsOf Standard)) (SetFactor 100) ≡ Read (Error Logic))
-    × (expectedV1 (fresh (limitsOf Standard)) (SetUnit Torr) ≡ Read Done)
+StartCases = (expected_v1 (fresh (limits_of Standard)) Measure ≡ Read (Reads 1000 20))
+    × (expected_v1 (fresh (limits_of Standard)) ReadFactor ≡ Read (Factor 100))
+    × (expected_v1 (fresh (limits_of Standard)) ReadUnit ≡ Read (Unit Mbar))
+    × (expected_v1 (fresh (limits_of Standard)) (SetFactor 100) ≡ Read (Error Logic))
+    × (expected_v1 (fresh (limits_of Standard)) (SetUnit Torr) ≡ Read Done)
 
 -- `M` to address 1, the whole way
 abbrev pub WholeWay : Type 0
-WholeWay = readV1 1 Measure (answer_of (fresh (limitsOf Standard)) 64 asked).reply ≡ Read (Reads 1000 20)
+WholeWay = read_v1 1 Measure (answer_of (fresh (limits_of Standard)) 64 asked).reply ≡ Read (Reads 1000 20)

@@ -1,16 +1,16 @@
 -- The data of each setting: its form, else 10 SYNTAX; its numbers and sources, else 11 RANGE; F below T, and each source once, else 12 LOGIC.
 use Rattle.std.specs.Prelude.{Bool, not, ◌&&◌, ◌||◌, List, [], ◌∷◌, ℕ, ◌+◌, ◌-◌, min, ltb, leb, eqb, length, take, drop}
 use Rattle.buffer.specs.First.{◌⇒◌, first}
-use Rattle.buffer.specs.Byte.{at, within, isDigit, every, sameText, untilOf, numeral, leading, starts_with}
-use Rattle.decimal.specs.Form.{number_of, parsedNumber}
-use Rattle.decimal.specs.Number.{belowOf, hundredthsOf}
+use Rattle.buffer.specs.Byte.{at, within, is_digit, every, same_text, until_of, numeral, leading, starts_with}
+use Rattle.decimal.specs.Form.{number_of, parsed_number}
+use Rattle.decimal.specs.Number.{below_of, hundredths_of}
 use Rattle.decimal.specs.declared.Parsed.{Parsed}
 use Rattle.decimal.specs.declared.Parsed.TheVariants.{Value, Syntax, Range}
 use Rattle.decimal.specs.declared.Hundredths.{Hundredths}
 use Rattle.decimal.specs.declared.Hundredths.TheVariants.{Whole, Other}
-use Rattle.sources.specs.Entries.{entriesNumber}
-use Rattle.settings.specs.Limits.{ProfileLimits, standard, isFactor}
-use Rattle.settings.specs.Sent.{unitText}
+use Rattle.sources.specs.Entries.{entries_number}
+use Rattle.settings.specs.Limits.{ProfileLimits, standard, is_factor}
+use Rattle.settings.specs.Sent.{unit_text}
 use Rattle.settings.specs.declared.PressureUnit.TheVariants.{Mbar, Torr, HPa}
 use Rattle.settings.specs.declared.Transition.TheVariants.{Direct, Between}
 use Rattle.settings.specs.declared.Setting.{Setting}
@@ -25,113 +25,113 @@ use Rattle.forms.specs.declared.Verdict.{Verdict}
 use Rattle.forms.specs.declared.Verdict.TheVariants.{Set}
 
 -- DA: "`001` to `016`"; "DA without three digits" is SYNTAX
-unfoldable pub addressData : List ℕ → Verdict
-addressData s =
+unfoldable pub address_data : List ℕ → Verdict
+address_data s =
     first
     (not (eqb (length s) 3) ⇒ Verdict.Refused 10
-    ∷ not (every isDigit s) ⇒ Verdict.Refused 10
-    ∷ not (within standard.addressLow standard.addressHigh (numeral s)) ⇒ Verdict.Refused 11
+    ∷ not (every is_digit s) ⇒ Verdict.Refused 10
+    ∷ not (within standard.address_low standard.address_high (numeral s)) ⇒ Verdict.Refused 11
     ∷ [])
     (Set (Address (numeral s)))
 
 -- DU: "`mbar`, `Torr`, `hPa`"; "Other texts for DU" are SYNTAX
-unfoldable pub unitData : List ℕ → Verdict
-unitData s =
+unfoldable pub unit_data : List ℕ → Verdict
+unit_data s =
     first
-    (sameText s (unitText Mbar) ⇒ Set (PressureIn Mbar)
-    ∷ sameText s (unitText Torr) ⇒ Set (PressureIn Torr)
-    ∷ sameText s (unitText HPa) ⇒ Set (PressureIn HPa)
+    (same_text s (unit_text Mbar) ⇒ Set (PressureIn Mbar)
+    ∷ same_text s (unit_text Torr) ⇒ Set (PressureIn Torr)
+    ∷ same_text s (unit_text HPa) ⇒ Set (PressureIn HPa)
     ∷ [])
     (Verdict.Refused 10)
 
 -- C1: "a number, whole hundredths, 0.20 to 8.00, else RANGE"
-unfoldable pub factorIn : Hundredths → Verdict
-factorIn (Whole h) = first (not (isFactor h) ⇒ Verdict.Refused 11 ∷ []) (Set (Factor h))
-factorIn Other = Verdict.Refused 11
+unfoldable pub factor_in : Hundredths → Verdict
+factor_in (Whole h) = first (not (is_factor h) ⇒ Verdict.Refused 11 ∷ []) (Set (Factor h))
+factor_in Other = Verdict.Refused 11
 
-unfoldable pub factorOf : Parsed → Verdict
-factorOf Syntax = Verdict.Refused (parsedNumber Syntax)
-factorOf Range = Verdict.Refused (parsedNumber Range)
-factorOf (Value n) = first (n.negative ⇒ Verdict.Refused 11 ∷ []) (factorIn (hundredthsOf n))
+unfoldable pub factor_of : Parsed → Verdict
+factor_of Syntax = Verdict.Refused (parsed_number Syntax)
+factor_of Range = Verdict.Refused (parsed_number Range)
+factor_of (Value n) = first (n.negative ⇒ Verdict.Refused 11 ∷ []) (factor_in (hundredths_of n))
 
 -- "One-digit settings: any other digit is RANGE, anything else SYNTAX": the largest digit is `most`
-unfoldable pub digitData : ℕ → List ℕ → Digit
-digitData most s =
+unfoldable pub digit_data : ℕ → List ℕ → Digit
+digit_data most s =
     first
     (not (eqb (length s) 1) ⇒ Digit.Refused 10
-    ∷ not (isDigit (at s 0)) ⇒ Digit.Refused 10
+    ∷ not (is_digit (at s 0)) ⇒ Digit.Refused 10
     ∷ ltb most (at s 0 - 48) ⇒ Digit.Refused 11
     ∷ [])
     (Is (at s 0 - 48))
 
 -- CM, CC and FC
-unfoldable pub digitOf : (ℕ → Setting) → Digit → Verdict
-digitOf setting (Is d) = Set (setting d)
-digitOf setting (Digit.Refused k) = Verdict.Refused k
+unfoldable pub digit_of : (ℕ → Setting) → Digit → Verdict
+digit_of setting (Is d) = Set (setting d)
+digit_of setting (Digit.Refused k) = Verdict.Refused k
 
 -- a number of ST: "each 1 to 20"; VSH's and VSM's "lies from 4E-4 to 1E-2 mbar (VSH) and from 4E-4 to 2E-3 mbar (VSM)"
-unfoldable pub limitedOf : ProfileLimits → Parsed → Limited
-limitedOf limits Syntax = Limited.Refused (parsedNumber Syntax)
-limitedOf limits Range = Limited.Refused (parsedNumber Range)
-limitedOf limits (Value n) =
+unfoldable pub limited_of : ProfileLimits → Parsed → Limited
+limited_of limits Syntax = Limited.Refused (parsed_number Syntax)
+limited_of limits Range = Limited.Refused (parsed_number Range)
+limited_of limits (Value n) =
     first
-    (belowOf n limits.transitionLow ⇒ Limited.Refused 11
-    ∷ belowOf limits.transitionHigh n ⇒ Limited.Refused 11
+    (below_of n limits.transition_low ⇒ Limited.Refused 11
+    ∷ below_of limits.transition_high n ⇒ Limited.Refused 11
     ∷ [])
     (Fine n)
 
-unfoldable pub directOf : Limited → Verdict
-directOf (Fine n) = Set (Switch (Direct n))
-directOf (Limited.Refused k) = Verdict.Refused k
+unfoldable pub direct_of : Limited → Verdict
+direct_of (Fine n) = Set (Switch (Direct n))
+direct_of (Limited.Refused k) = Verdict.Refused k
 
 -- SYNTAX of either number comes before RANGE of the other. "ST's F must lie strictly below T, else LOGIC."
-unfoldable pub betweenOf : Limited → Limited → Verdict
-betweenOf (Fine low) (Fine high) = first (not (belowOf low high) ⇒ Verdict.Refused 12 ∷ []) (Set (Switch (Between low high)))
-betweenOf (Fine low) (Limited.Refused k) = Verdict.Refused k
-betweenOf (Limited.Refused j) (Fine high) = Verdict.Refused j
-betweenOf (Limited.Refused j) (Limited.Refused k) = Verdict.Refused (min j k)
+unfoldable pub between_of : Limited → Limited → Verdict
+between_of (Fine low) (Fine high) = first (not (below_of low high) ⇒ Verdict.Refused 12 ∷ []) (Set (Switch (Between low high)))
+between_of (Fine low) (Limited.Refused k) = Verdict.Refused k
+between_of (Limited.Refused j) (Fine high) = Verdict.Refused j
+between_of (Limited.Refused j) (Limited.Refused k) = Verdict.Refused (min j k)
 
 -- ST: "`D` number, or `F` number `T` number", each judged by itself; VSH and VSM "accept only the `D` form"
-unfoldable pub endsOf : ProfileLimits → List ℕ → Ends
-endsOf limits s =
+unfoldable pub ends_of : ProfileLimits → List ℕ → Ends
+ends_of limits s =
     let t = drop 1 s in
-    let k = untilOf 84 t in
+    let k = until_of 84 t in
     first
-    (starts_with 68 s ⇒ One (limitedOf limits (number_of t))
-    ∷ not (starts_with 70 s && limits.betweenForm) ⇒ None
+    (starts_with 68 s ⇒ One (limited_of limits (number_of t))
+    ∷ not (starts_with 70 s && limits.between_form) ⇒ None
     ∷ leb (length t) k ⇒ None
     ∷ [])
-    (Two (limitedOf limits (number_of (take k t))) (limitedOf limits (number_of (drop (k + 1) t))))
+    (Two (limited_of limits (number_of (take k t))) (limited_of limits (number_of (drop (k + 1) t))))
 
-unfoldable pub transitionOf : Ends → Verdict
-transitionOf None = Verdict.Refused 10
-transitionOf (One n) = directOf n
-transitionOf (Two low high) = betweenOf low high
+unfoldable pub transition_of : Ends → Verdict
+transition_of None = Verdict.Refused 10
+transition_of (One n) = direct_of n
+transition_of (Two low high) = between_of low high
 
-unfoldable pub transitionData : ProfileLimits → List ℕ → Verdict
-transitionData limits s = transitionOf (endsOf limits s)
+unfoldable pub transition_data : ProfileLimits → List ℕ → Verdict
+transition_data limits s = transition_of (ends_of limits s)
 
 -- SM: "`0` off, or `4` and" a list of sources. "`0` with a list is SYNTAX"
-unfoldable pub idleList : List ℕ → Bool
-idleList s = starts_with 48 s && leb 2 (length s)
+unfoldable pub idle_list : List ℕ → Bool
+idle_list s = starts_with 48 s && leb 2 (length s)
 
 -- "other one-digit modes (list or none) are RANGE"
-unfoldable pub knownMode : List ℕ → Bool
-knownMode s = starts_with 48 s || starts_with 52 s
+unfoldable pub known_mode : List ℕ → Bool
+known_mode s = starts_with 48 s || starts_with 52 s
 
 -- the mode stands before the entries, which are judged with n; "a repeat or a listed `0` is 12 LOGIC, after RANGE"
-unfoldable pub streamOf : List ℕ → ℕ → Verdict
-streamOf s n =
+unfoldable pub stream_of : List ℕ → ℕ → Verdict
+stream_of s n =
     first
     (eqb (leading s) 0 ⇒ Verdict.Refused 10
     ∷ eqb n 10 ⇒ Verdict.Refused 10
-    ∷ idleList s ⇒ Verdict.Refused 10
-    ∷ not (knownMode s) ⇒ Verdict.Refused 11
+    ∷ idle_list s ⇒ Verdict.Refused 10
+    ∷ not (known_mode s) ⇒ Verdict.Refused 11
     ∷ eqb n 11 ⇒ Verdict.Refused 11
     ∷ eqb n 12 ⇒ Verdict.Refused 12
     ∷ [])
     (Set (Stream (starts_with 52 s)))
 
 -- "an absent source stays 11 RANGE"
-unfoldable pub streamData : ProfileLimits → List ℕ → Verdict
-streamData limits s = streamOf s (entriesNumber limits.sourceCodes (drop 1 s))
+unfoldable pub stream_data : ProfileLimits → List ℕ → Verdict
+stream_data limits s = stream_of s (entries_number limits.source_codes (drop 1 s))

@@ -3,10 +3,10 @@
 ghost use Rattle.std.specs.Prelude.{◌≡◌, [], min};
 ghost use Rattle.decimal.specs.Form.{number_of};
 ghost use Rattle.sources.specs.Source.{list_of, Counted};
-ghost use Rattle.settings.specs.Limits.{standard, limitsOf};
+ghost use Rattle.settings.specs.Limits.{standard, limits_of};
 ghost use Rattle.settings.specs.declared.Key.{Key};
 ghost use Rattle.settings.specs.declared.Setting.{Setting};
-ghost use Rattle.forms.specs.Forms.{addressData, unitData, factorIn, factorOf, digitData, digitOf, limitedOf, directOf, betweenOf, endsOf, transitionOf, transitionData, idleList, knownMode, streamOf};
+ghost use Rattle.forms.specs.Forms.{address_data, unit_data, factor_in, factor_of, digit_data, digit_of, limited_of, direct_of, between_of, ends_of, transition_of, transition_data, idle_list, known_mode, stream_of};
 ghost use Rattle.forms.specs.Judged.{Judges};
 
 // What a write's data are: a setting with its value, or the refusal's number.
@@ -47,7 +47,7 @@ pub enum Ends {
 
 // DA.
 pub fn judge_address(s: &[u8]) -> Verdict
-    ensures { result ≡ addressData s.now }
+    ensures { result ≡ address_data s.now }
 {
     if s.len() != 3 {
         return Verdict::Refused(10);
@@ -67,7 +67,7 @@ pub fn judge_address(s: &[u8]) -> Verdict
 
 // DU.
 pub fn judge_unit(s: &[u8]) -> Verdict
-    ensures { result ≡ unitData s.now }
+    ensures { result ≡ unit_data s.now }
 {
     let mbar = settings::PressureUnit::MBAR_TEXT;
     if buffer::is_same(s, &mbar) {
@@ -86,7 +86,7 @@ pub fn judge_unit(s: &[u8]) -> Verdict
 
 // Hundredths as a factor, within its limits.
 pub fn factor_in(h: decimal::Hundredths) -> Verdict
-    ensures { result ≡ factorIn h }
+    ensures { result ≡ factor_in h }
 {
     let decimal::Hundredths::Whole(n) = h else {
         return Verdict::Refused(11);
@@ -98,7 +98,7 @@ pub fn factor_in(h: decimal::Hundredths) -> Verdict
 }
 
 fn factor_of(p: decimal::Parsed) -> Verdict
-    ensures { result ≡ factorOf p }
+    ensures { result ≡ factor_of p }
 {
     match p {
         decimal::Parsed::Syntax => Verdict::Refused(10),
@@ -114,14 +114,14 @@ fn factor_of(p: decimal::Parsed) -> Verdict
 
 // C1.
 pub fn judge_factor(s: &[u8]) -> Verdict
-    ensures { result ≡ factorOf (number_of s.now) }
+    ensures { result ≡ factor_of (number_of s.now) }
 {
     factor_of(decimal::read_number(s))
 }
 
 // One digit up to `most`.
 pub fn judge_digit(s: &[u8], most: u8) -> Digit
-    ensures { result ≡ digitData most s.now }
+    ensures { result ≡ digit_data most s.now }
 {
     if s.len() != 1 {
         return Digit::Refused(10);
@@ -139,7 +139,7 @@ pub fn judge_digit(s: &[u8], most: u8) -> Digit
 
 // CM.
 pub fn judge_control(s: &[u8]) -> Verdict
-    ensures { result ≡ digitOf Setting.Control (digitData standard.controlHigh s.now) }
+    ensures { result ≡ digit_of Setting.Control (digit_data standard.control_high s.now) }
 {
     match judge_digit(s, settings::Settings::CONTROL_MAX) {
         Digit::Is(d) => Verdict::Set(settings::Setting::Control(d)),
@@ -149,7 +149,7 @@ pub fn judge_control(s: &[u8]) -> Verdict
 
 // CC.
 pub fn judge_cathode(s: &[u8]) -> Verdict
-    ensures { result ≡ digitOf Setting.Cathode (digitData standard.cathodeHigh s.now) }
+    ensures { result ≡ digit_of Setting.Cathode (digit_data standard.cathode_high s.now) }
 {
     match judge_digit(s, settings::Settings::CATHODE_MAX) {
         Digit::Is(d) => Verdict::Set(settings::Setting::Cathode(d)),
@@ -159,7 +159,7 @@ pub fn judge_cathode(s: &[u8]) -> Verdict
 
 // FC.
 pub fn judge_filament(s: &[u8]) -> Verdict
-    ensures { result ≡ digitOf Setting.Filament (digitData standard.filamentHigh s.now) }
+    ensures { result ≡ digit_of Setting.Filament (digit_data standard.filament_high s.now) }
 {
     match judge_digit(s, settings::Settings::FILAMENT_MAX) {
         Digit::Is(d) => Verdict::Set(settings::Setting::Filament(d)),
@@ -169,7 +169,7 @@ pub fn judge_filament(s: &[u8]) -> Verdict
 
 // A number of ST, within the limits of the profile.
 pub fn in_limits(profile: sources::Profile, p: decimal::Parsed) -> Limited
-    ensures { result ≡ limitedOf (limitsOf profile) p }
+    ensures { result ≡ limited_of (limits_of profile) p }
 {
     match p {
         decimal::Parsed::Syntax => Limited::Refused(10),
@@ -187,7 +187,7 @@ pub fn in_limits(profile: sources::Profile, p: decimal::Parsed) -> Limited
 }
 
 fn direct(n: Limited) -> Verdict
-    ensures { result ≡ directOf n }
+    ensures { result ≡ direct_of n }
 {
     match n {
         Limited::Fine(v) => Verdict::Set(settings::Setting::Switch(settings::Transition::Direct(
@@ -205,7 +205,7 @@ fn lesser(j: u8, k: u8) -> u8
 
 // F and T: the first refusal of either, and then F below T.
 fn between(low: Limited, high: Limited) -> Verdict
-    ensures { result ≡ betweenOf low high }
+    ensures { result ≡ between_of low high }
 {
     match low {
         Limited::Refused(j) => match high {
@@ -226,7 +226,7 @@ fn between(low: Limited, high: Limited) -> Verdict
 
 // The numbers of ST's data. The form with F is one of the profile's, or none.
 pub fn read_ends(profile: sources::Profile, s: &[u8]) -> Ends
-    ensures { result ≡ endsOf (limitsOf profile) s.now }
+    ensures { result ≡ ends_of (limits_of profile) s.now }
 {
     let t = buffer::rest(s, 1);
     if buffer::starts_with(s, b'D') {
@@ -249,7 +249,7 @@ pub fn read_ends(profile: sources::Profile, s: &[u8]) -> Ends
 
 // The numbers of ST as a setting.
 pub fn judge_ends(ends: Ends) -> Verdict
-    ensures { result ≡ transitionOf ends }
+    ensures { result ≡ transition_of ends }
 {
     match ends {
         Ends::None => Verdict::Refused(10),
@@ -260,7 +260,7 @@ pub fn judge_ends(ends: Ends) -> Verdict
 
 // ST.
 pub fn judge_transition(profile: sources::Profile, s: &[u8]) -> Verdict
-    ensures { result ≡ transitionData (limitsOf profile) s.now }
+    ensures { result ≡ transition_data (limits_of profile) s.now }
 {
     judge_ends(read_ends(profile, s))
 }
@@ -276,7 +276,7 @@ fn refused(number: u8) -> Judged
 
 // Whether the mode is 0 and a list follows.
 fn has_idle_list(s: &[u8]) -> bool
-    ensures { result ≡ idleList s.now }
+    ensures { result ≡ idle_list s.now }
 {
     if buffer::starts_with(s, b'0') {
         return 2 <= s.len();
@@ -286,7 +286,7 @@ fn has_idle_list(s: &[u8]) -> bool
 
 // Whether the mode is 0 or 4.
 fn has_mode(s: &[u8]) -> bool
-    ensures { result ≡ knownMode s.now }
+    ensures { result ≡ known_mode s.now }
 {
     if buffer::starts_with(s, b'0') {
         return true;
@@ -296,7 +296,7 @@ fn has_mode(s: &[u8]) -> bool
 
 // SM: number is how the entries after the mode are judged.
 fn stream_verdict(s: &[u8], number: u8) -> Verdict
-    ensures { result ≡ streamOf s.now number }
+    ensures { result ≡ stream_of s.now number }
 {
     if buffer::count_digits(s) == 0 {
         return Verdict::Refused(10);
@@ -322,7 +322,7 @@ fn stream_verdict(s: &[u8], number: u8) -> Verdict
 
 // SM. The list is never filled past its end, whatever the text.
 pub fn judge_stream(profile: sources::Profile, s: &[u8]) -> Judged
-    ensures { Judges (limitsOf profile) Key.SM s.now result }
+    ensures { Judges (limits_of profile) Key.SM s.now result }
 {
     let listed = sources::read_entries(profile, buffer::rest(s, 1));
     let sources = listed.sources;
@@ -346,7 +346,7 @@ fn plain(verdict: Verdict) -> Judged
 
 // The data of a write to one setting of a gauge of this profile.
 pub fn judge(profile: sources::Profile, key: settings::Key, s: &[u8]) -> Judged
-    ensures { Judges (limitsOf profile) key s.now result }
+    ensures { Judges (limits_of profile) key s.now result }
 {
     match key {
         settings::Key::DA => plain(judge_address(s)),

@@ -8,11 +8,11 @@ use borrow.Author.Tests.{eqb-true, eqb-false, ltb-true, ltb-false, le-ltb, lt-lt
 use lib.Dec.{eqb, ltb}
 use lib.ListN.{length}
 use Rattle.buffer.specs.First.{pick}
-use Rattle.buffer.specs.Byte.{at, isDigit}
+use Rattle.buffer.specs.Byte.{at, is_digit}
 use Rattle.buffer.proofs.Rules.{each}
-use Rattle.buffer.proofs.Laws.{within-true, within_in}
+use Rattle.buffer.proofs.Laws.{within_true, within_in}
 use Rattle.sources.proofs.Laws.{one_byte}
-use Rattle.forms.specs.Forms.{digitData}
+use Rattle.forms.specs.Forms.{digit_data}
 use Rattle.forms.specs.declared.Digit.{Digit}
 use Rattle.forms.specs.declared.Digit.TheVariants.{Is, Refused}
 use Rattle.forms_facts.specs.Theorems.{DigitExactly, DigitRange, DigitSyntax}
@@ -29,60 +29,60 @@ data Told (most : ℕ) (s : List ℕ) : Digit → Type 0 where
   other : ((d : ℕ) → IsDigit d s → ⊥) → Told most s (Refused 10)
 
 -- a text of one character from `0` to `9`
-one-digit : (s : List ℕ) → length s ≡ 1 → isDigit (at s 0) ≡ true → IsDigit (at s 0 - 48) s
-one-digit s e f =
-    let w = within-true 48 57 (at s 0) f in
+one_digit_lem : (s : List ℕ) → length s ≡ 1 → is_digit (at s 0) ≡ true → IsDigit (at s 0 - 48) s
+one_digit_lem s e f =
+    let w = within_true 48 57 (at s 0) f in
     let v : at s 0 - 48 + 48 ≡ at s 0 = omega arith in
     record { text = rw v (one_byte s e); low = omega arith }
 
-is_digit : (d : ℕ) (s : List ℕ) → IsDigit d s → isDigit (at s 0) ≡ true
-is_digit d s h = rw h.text (within_in 48 57 (d + 48) (omega arith) (omega (arith, h.low)))
+is_digit_lem : (d : ℕ) (s : List ℕ) → IsDigit d s → is_digit (at s 0) ≡ true
+is_digit_lem d s h = rw h.text (within_in 48 57 (d + 48) (omega arith) (omega (arith, h.low)))
 
-told : (most : ℕ) (s : List ℕ) → Told most s (digitData most s)
-unfolding digitData
+told : (most : ℕ) (s : List ℕ) → Told most s (digit_data most s)
+unfolding digit_data
 told most s =
     each (Told most s) (not (eqb (length s) 1)) (Refused 10) _ (λ e. other (λ d h. eqb-false (length s) 1 (not-true _ e) (ap length h.text)))
-    (λ e. each (Told most s) (not (isDigit (at s 0))) (Refused 10) _ (λ f. other (λ d h. let z : ◌≡◌ {A = ℕ} 0 1 = cc (not-true (isDigit (at s 0)) f, is_digit d s h) in omega arith))
+    (λ e. each (Told most s) (not (is_digit (at s 0))) (Refused 10) _ (λ f. other (λ d h. let z : ◌≡◌ {A = ℕ} 0 1 = cc (not-true (is_digit (at s 0)) f, is_digit_lem d s h) in omega arith))
     (λ f. each (Told most s) (ltb most (at s 0 - 48)) (Refused 11) (Is (at s 0 - 48)) (λ g. large (at s 0 - 48) (digit e f) (ltb-true most (at s 0 - 48) g))
     (λ g. accepted (at s 0 - 48) (digit e f) (ltb-false most (at s 0 - 48) g))))
   where
-    digit : not (eqb (length s) 1) ≡ false → not (isDigit (at s 0)) ≡ false → IsDigit (at s 0 - 48) s
-    digit e f = one-digit s (eqb-true (length s) 1 (not-false _ e)) (not-false _ f)
+    digit : not (eqb (length s) 1) ≡ false → not (is_digit (at s 0)) ≡ false → IsDigit (at s 0 - 48) s
+    digit e f = one_digit_lem s (eqb-true (length s) 1 (not-false _ e)) (not-false _ f)
 
 -- exactly the digits up to `most` are accepted
-pub digit-exactly : DigitExactly
-unfolding digitData pick
-digit-exactly most s d =
-    (λ e. let w = go (digitData most s) (told most s) e in (w.0, omega (arith, w.1), omega (arith, w.2)), λ w. back w.0 (omega (arith, w.1)) (omega (arith, w.2)))
+pub digit_exactly : DigitExactly
+unfolding digit_data pick
+digit_exactly most s d =
+    (λ e. let w = go (digit_data most s) (told most s) e in (w.0, omega (arith, w.1), omega (arith, w.2)), λ w. back w.0 (omega (arith, w.1)) (omega (arith, w.2)))
   where
     go : (r : Digit) → Told most s r → r ≡ Is d → (s ≡ (d + 48) ∷ []) × (d ≤ most) × (d < 10)
     go r (accepted k h l) e = let z : k ≡ d = cc in (rw z at h.text, omega arith, omega (arith, h.low))
     go r (large k h l) e = absurd (let z : ◌≡◌ {A = ℕ} 0 1 = cc in omega arith)
     go r (other n) e = absurd (let z : ◌≡◌ {A = ℕ} 0 1 = cc in omega arith)
 
-    back : s ≡ (d + 48) ∷ [] → d ≤ most → d < 10 → digitData most s ≡ Is d
+    back : s ≡ (d + 48) ∷ [] → d ≤ most → d < 10 → digit_data most s ≡ Is d
     back e h k =
         let z : d + 48 - 48 ≡ d = omega arith in
         rw (e, within_in 48 57 (d + 48) (omega arith) (omega arith), z, le-ltb most d h)
 
 -- "any other digit is RANGE"
-pub digit-range : DigitRange
-unfolding digitData pick
-digit-range most s = (λ e. go (digitData most s) (told most s) e, λ w. back w.0 w.1 (omega (arith, w.2)) (omega (arith, w.3)))
+pub digit_range : DigitRange
+unfolding digit_data pick
+digit_range most s = (λ e. go (digit_data most s) (told most s) e, λ w. back w.0 w.1 (omega (arith, w.2)) (omega (arith, w.3)))
   where
     go : (r : Digit) → Told most s r → r ≡ Refused 11 → (d : ℕ) × (s ≡ (d + 48) ∷ []) × (most < d) × (d < 10)
     go r (accepted k h l) e = absurd (let z : ◌≡◌ {A = ℕ} 0 1 = cc in omega arith)
     go r (large k h l) e = (k, h.text, omega arith, omega (arith, h.low))
     go r (other n) e = absurd (let z : ◌≡◌ {A = ℕ} 0 1 = cc in omega arith)
 
-    back : (d : ℕ) → s ≡ (d + 48) ∷ [] → most < d → d < 10 → digitData most s ≡ Refused 11
+    back : (d : ℕ) → s ≡ (d + 48) ∷ [] → most < d → d < 10 → digit_data most s ≡ Refused 11
     back d e h k =
         let z : d + 48 - 48 ≡ d = omega arith in
         rw (e, within_in 48 57 (d + 48) (omega arith) (omega arith), z, lt-ltb most d h)
 
 -- "anything else SYNTAX"
-pub digit-syntax : DigitSyntax
-digit-syntax most s = (λ e. go (digitData most s) (told most s) e, λ n. back n (digitData most s) (told most s))
+pub digit_syntax : DigitSyntax
+digit_syntax most s = (λ e. go (digit_data most s) (told most s) e, λ n. back n (digit_data most s) (told most s))
   where
     go : (r : Digit) → Told most s r → r ≡ Refused 10 → (d : ℕ) → d < 10 → s ≡ (d + 48) ∷ [] → ⊥
     go r (accepted k h l) e = absurd (let z : ◌≡◌ {A = ℕ} 0 1 = cc in omega arith)

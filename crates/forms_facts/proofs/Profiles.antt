@@ -4,14 +4,14 @@ use mathlib.Core.Logic.{inr}
 use Prim.Native.Nat.{◌≤◌}
 use native.Mathlib.Omega.{arith}
 use Rattle.decimal.specs.Exact.{units}
-use Rattle.decimal.specs.Number.{plus, minus, belowOf}
+use Rattle.decimal.specs.Number.{plus, minus, below_of}
 use Rattle.sources.specs.declared.Profile.TheVariants.{Standard, Vsh, Vsm}
 use Rattle.sources.proofs.Profiles.{few, zero_in, all_here}
-use Rattle.settings.specs.Limits.{limitsOf}
+use Rattle.settings.specs.Limits.{limits_of}
 use Rattle.forms_facts.specs.Theorems.{AllProper}
 
 pub proper : AllProper
-unfolding limitsOf belowOf plus minus units
+unfolding limits_of below_of plus minus units
 proper Standard =
     record {
       first = zero_in Standard;

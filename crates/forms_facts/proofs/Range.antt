@@ -1,6 +1,6 @@
 -- SM: where it is refused with 11.
 use mathlib.Core.Path.{◌≡◌, refl, sym, ap, ◌∙◌}
-use mathlib.Core.Bool.{Bool, true, false, cond, not, ◌||◌, and-false, or-true, true≢false}
+use mathlib.Core.Bool.{Bool, true, false, cond, not, ◌||◌, and-false, or_true, true≢false}
 use mathlib.Core.List.{List, [], ◌∷◌, map}
 use mathlib.Core.Logic.{◌⊎◌, inl, inr}
 use Prim.Native.Nat.{ℕ, ◌+◌}
@@ -9,77 +9,77 @@ use borrow.Author.Tests.{eqb-true, eq-eqb, ne_eqb, not-true, not-false}
 use lib.Dec.{eqb}
 use lib.ListN.{length, drop}
 use Rattle.buffer.specs.First.{pick}
-use Rattle.buffer.specs.Byte.{isDigit, every, leading, starts_with, sameText}
-use Rattle.buffer.proofs.Laws.{within-true}
+use Rattle.buffer.specs.Byte.{is_digit, every, leading, starts_with, same_text}
+use Rattle.buffer.proofs.Laws.{within_true}
 use Rattle.buffer.proofs.Rules.{each}
-use Rattle.sources.specs.Source.{sourceText, isSource, findSource, sourceOf, standOnce}
-use Rattle.sources.specs.Entries.{sourceTexts, entriesOf, isFormed, isKnown, code_of, opens, entriesNumber}
+use Rattle.sources.specs.Source.{source_text, is_source, find_source, source_of, stand_once}
+use Rattle.sources.specs.Entries.{source_texts, entries_of, is_formed, is_known, code_of, opens, entries_number}
 use Rattle.sources.specs.declared.Source.{Source}
 use Rattle.sources.specs.declared.Source.TheVariants.{Known, Malformed}
-use Rattle.sources.proofs.Laws.{short-form, long-form, not_short}
+use Rattle.sources.proofs.Laws.{short_form, long_form, not_short}
 use Rattle.settings.specs.Limits.{ProfileLimits}
 use Rattle.settings.specs.declared.Setting.TheVariants.{Stream}
-use Rattle.forms.specs.Forms.{idleList, knownMode, streamOf, streamData}
-use Rattle.forms.specs.Judged.{verdictOf, verdictNumber}
+use Rattle.forms.specs.Forms.{idle_list, known_mode, stream_of, stream_data}
+use Rattle.forms.specs.Judged.{verdict_of, verdict_number}
 use Rattle.forms.specs.declared.Verdict.TheVariants.{Set, Refused}
-use Rattle.forms_facts.specs.Codes.{entriesText, isKnownText}
+use Rattle.forms_facts.specs.Codes.{entries_text, is_known_text}
 use Rattle.forms_facts.specs.Theorems.{RangeExactly}
 use Rattle.forms_facts.proofs.Lemmas.Lacks.{lacks, split}
-use Rattle.forms_facts.proofs.Lemmas.Lists.{joined-texts}
-use Rattle.forms_facts.proofs.Lemmas.Texts.{texts-back, opens-texts}
-use Rattle.forms_facts.proofs.Logic.{no-list}
+use Rattle.forms_facts.proofs.Lemmas.Lists.{joined_texts}
+use Rattle.forms_facts.proofs.Lemmas.Texts.{texts_back, opens_texts}
+use Rattle.forms_facts.proofs.Logic.{no_list}
 
 -- ---- texts of the form
 
-no-D : (a : ℕ) → isDigit a ≡ true → eqb a 68 ≡ false
-no-D a e = ne_eqb a 68 (λ (z : a ≡ 68). let h = within-true 48 57 a e in omega arith)
+no_d : (a : ℕ) → is_digit a ≡ true → eqb a 68 ≡ false
+no_d a e = ne_eqb a 68 (λ (z : a ≡ 68). let h = within_true 48 57 a e in omega arith)
 
-letter-or-digit : (a : ℕ) → (isDigit a || eqb a 84) ≡ true → eqb a 68 ≡ false
-letter-or-digit a e = go (isDigit a) refl e
+letter_or_digit : (a : ℕ) → (is_digit a || eqb a 84) ≡ true → eqb a 68 ≡ false
+letter_or_digit a e = go (is_digit a) refl e
   where
-    go : (b : Bool) → isDigit a ≡ b → (b || eqb a 84) ≡ true → eqb a 68 ≡ false
-    go true f h = no-D a f
+    go : (b : Bool) → is_digit a ≡ b → (b || eqb a 84) ≡ true → eqb a 68 ≡ false
+    go true f h = no_d a f
     go false f h = ne_eqb a 68 (λ (z : a ≡ 68). omega (arith, eqb-true a 84 h))
 
-too_long : (a b c : ℕ) (t : List ℕ) → isSource (a ∷ b ∷ c ∷ t) ≡ false
-unfolding isSource
+too_long : (a b c : ℕ) (t : List ℕ) → is_source (a ∷ b ∷ c ∷ t) ≡ false
+unfolding is_source
 too_long a b c t = rw (not_short (length (a ∷ b ∷ c ∷ t)) (λ e. omega arith) (λ e. omega arith), ne_eqb (length (a ∷ b ∷ c ∷ t)) 2 (λ e. omega arith)) (simp and-false)
 
 -- a text of the form has no `D`
-source-lacks : (t : List ℕ) → isSource t ≡ true → lacks 68 t ≡ true
+source_lacks : (t : List ℕ) → is_source t ≡ true → lacks 68 t ≡ true
 unfolding lacks
-source-lacks [] e = refl
-source-lacks (a ∷ []) e = rw (no-D a (sym (short-form a) ∙ e))
-source-lacks (a ∷ b ∷ []) e =
-    let w = split (isDigit b) (isDigit a || eqb a 84) (sym (long-form a b) ∙ e) in
-    rw (letter-or-digit a w.1, no-D b w.0)
-source-lacks (a ∷ b ∷ c ∷ t) e = absurd (true≢false (sym e ∙ too_long a b c t))
+source_lacks [] e = refl
+source_lacks (a ∷ []) e = rw (no_d a (sym (short_form a) ∙ e))
+source_lacks (a ∷ b ∷ []) e =
+    let w = split (is_digit b) (is_digit a || eqb a 84) (sym (long_form a b) ∙ e) in
+    rw (letter_or_digit a w.1, no_d b w.0)
+source_lacks (a ∷ b ∷ c ∷ t) e = absurd (true≢false (sym e ∙ too_long a b c t))
 
-all-lack : (ts : List (List ℕ)) → every isSource ts ≡ true → every (lacks 68) ts ≡ true
+all_lack : (ts : List (List ℕ)) → every is_source ts ≡ true → every (lacks 68) ts ≡ true
 unfolding every
-all-lack [] e = refl
-all-lack (t ∷ ts) e = let w = split (isSource t) (every isSource ts) e in rw (source-lacks t w.0, all-lack ts w.1)
+all_lack [] e = refl
+all_lack (t ∷ ts) e = let w = split (is_source t) (every is_source ts) e in rw (source_lacks t w.0, all_lack ts w.1)
 
 -- a text is of the form exactly if it is some source, known or not
-find-formed : (codes t : List ℕ) → isFormed (findSource codes t) ≡ true
-unfolding findSource
-find-formed [] t = refl
-find-formed (c ∷ codes) t = each (λ (r : Source). isFormed r ≡ true) (sameText t (sourceText c)) (Known c) (findSource codes t) (λ _. refl) (λ _. find-formed codes t)
+find_formed : (codes t : List ℕ) → is_formed (find_source codes t) ≡ true
+unfolding find_source
+find_formed [] t = refl
+find_formed (c ∷ codes) t = each (λ (r : Source). is_formed r ≡ true) (same_text t (source_text c)) (Known c) (find_source codes t) (λ _. refl) (λ _. find_formed codes t)
 
-formed-is : (codes : List ℕ) (t : List ℕ) → isFormed (sourceOf codes t) ≡ isSource t
-unfolding sourceOf pick
-formed-is codes t = go (isSource t)
+formed_is : (codes : List ℕ) (t : List ℕ) → is_formed (source_of codes t) ≡ is_source t
+unfolding source_of pick
+formed_is codes t = go (is_source t)
   where
-    go : (b : Bool) → isFormed (pick (not b) Malformed (findSource codes t)) ≡ b
-    go true = find-formed codes t
+    go : (b : Bool) → is_formed (pick (not b) Malformed (find_source codes t)) ≡ b
+    go true = find_formed codes t
     go false = refl
 
-all-formed : (codes : List ℕ) (ts : List (List ℕ)) → every isFormed (map (sourceOf codes) ts) ≡ every isSource ts
+all_formed : (codes : List ℕ) (ts : List (List ℕ)) → every is_formed (map (source_of codes) ts) ≡ every is_source ts
 unfolding every
-all-formed codes [] = refl
-all-formed codes (t ∷ ts) = rw (formed-is codes t, all-formed codes ts)
+all_formed codes [] = refl
+all_formed codes (t ∷ ts) = rw (formed_is codes t, all_formed codes ts)
 
-all_known : (codes : List ℕ) (ts : List (List ℕ)) → every isKnown (map (sourceOf codes) ts) ≡ every (isKnownText codes) ts
+all_known : (codes : List ℕ) (ts : List (List ℕ)) → every is_known (map (source_of codes) ts) ≡ every (is_known_text codes) ts
 unfolding every
 all_known codes [] = refl
 all_known codes (t ∷ ts) = rw (all_known codes ts)
@@ -88,46 +88,46 @@ all_known codes (t ∷ ts) = rw (all_known codes ts)
 
 module _ (codes t : List ℕ) where
   abbrev rest : ℕ
-  rest = pick (not (standOnce (map code_of (entriesOf codes t)))) 12 0
+  rest = pick (not (stand_once (map code_of (entries_of codes t)))) 12 0
 
   abbrev rows : (a b c : Bool) → ℕ
   rows a b c = pick a 10 (pick b 10 (pick c 11 rest))
 
-  of-form : eqb (entriesNumber codes t) 10 ≡ false → (opens t ≡ true) × (every isFormed (entriesOf codes t) ≡ true)
-  unfolding entriesNumber pick
-  of-form e = go (not (opens t)) (not (every isFormed (entriesOf codes t))) refl refl e
+  of_form : eqb (entries_number codes t) 10 ≡ false → (opens t ≡ true) × (every is_formed (entries_of codes t) ≡ true)
+  unfolding entries_number pick
+  of_form e = go (not (opens t)) (not (every is_formed (entries_of codes t))) refl refl e
     where
-      go : (a b : Bool) → not (opens t) ≡ a → not (every isFormed (entriesOf codes t)) ≡ b → eqb (rows a b (not (every isKnown (entriesOf codes t)))) 10 ≡ false
-          → (opens t ≡ true) × (every isFormed (entriesOf codes t) ≡ true)
+      go : (a b : Bool) → not (opens t) ≡ a → not (every is_formed (entries_of codes t)) ≡ b → eqb (rows a b (not (every is_known (entries_of codes t)))) 10 ≡ false
+          → (opens t ≡ true) × (every is_formed (entries_of codes t) ≡ true)
       go false false p q h = (not-false _ p, not-false _ q)
       go true b p q h = absurd (true≢false h)
       go false true p q h = absurd (true≢false h)
 
-  unknown : eqb (entriesNumber codes t) 11 ≡ true → every isKnown (entriesOf codes t) ≡ false
-  unfolding entriesNumber pick
-  unknown e = go (not (opens t)) (not (every isFormed (entriesOf codes t))) (not (every isKnown (entriesOf codes t))) (not (standOnce (map code_of (entriesOf codes t)))) refl e
+  unknown : eqb (entries_number codes t) 11 ≡ true → every is_known (entries_of codes t) ≡ false
+  unfolding entries_number pick
+  unknown e = go (not (opens t)) (not (every is_formed (entries_of codes t))) (not (every is_known (entries_of codes t))) (not (stand_once (map code_of (entries_of codes t)))) refl e
     where
-      go : (a b c d : Bool) → not (every isKnown (entriesOf codes t)) ≡ c → eqb (pick a 10 (pick b 10 (pick c 11 (pick d 12 0)))) 11 ≡ true → every isKnown (entriesOf codes t) ≡ false
+      go : (a b c d : Bool) → not (every is_known (entries_of codes t)) ≡ c → eqb (pick a 10 (pick b 10 (pick c 11 (pick d 12 0)))) 11 ≡ true → every is_known (entries_of codes t) ≡ false
       go a b true d r h = not-true _ r
       go true b false d r h = absurd (true≢false (sym h))
       go false true false d r h = absurd (true≢false (sym h))
       go false false false true r h = absurd (true≢false (sym h))
       go false false false false r h = absurd (true≢false (sym h))
 
-  by-known : opens t ≡ true → every isFormed (entriesOf codes t) ≡ true → entriesNumber codes t ≡ pick (not (every isKnown (entriesOf codes t))) 11 rest
-  unfolding entriesNumber pick
-  by-known o f = rw (o, f)
+  by_known : opens t ≡ true → every is_formed (entries_of codes t) ≡ true → entries_number codes t ≡ pick (not (every is_known (entries_of codes t))) 11 rest
+  unfolding entries_number pick
+  by_known o f = rw (o, f)
 
 -- ---- what a refusal with 11 went by
 
 record Eleven (s : List ℕ) (n : ℕ) : Type 0 where
   some : eqb (leading s) 0 ≡ false
   formed : eqb n 10 ≡ false
-  busy : idleList s ≡ false
-  why : (knownMode s ≡ false) ⊎ (eqb n 11 ≡ true)
+  busy : idle_list s ≡ false
+  why : (known_mode s ≡ false) ⊎ (eqb n 11 ≡ true)
 
-eleven : (s : List ℕ) (n : ℕ) (a b c d e f : Bool) → eqb (leading s) 0 ≡ a → eqb n 10 ≡ b → idleList s ≡ c → not (knownMode s) ≡ d → eqb n 11 ≡ e → eqb n 12 ≡ f
-    → verdictNumber (pick a (Refused 10) (pick b (Refused 10) (pick c (Refused 10) (pick d (Refused 11) (pick e (Refused 11) (pick f (Refused 12) (Set (Stream (starts_with 52 s))))))))) ≡ 11
+eleven : (s : List ℕ) (n : ℕ) (a b c d e f : Bool) → eqb (leading s) 0 ≡ a → eqb n 10 ≡ b → idle_list s ≡ c → not (known_mode s) ≡ d → eqb n 11 ≡ e → eqb n 12 ≡ f
+    → verdict_number (pick a (Refused 10) (pick b (Refused 10) (pick c (Refused 10) (pick d (Refused 11) (pick e (Refused 11) (pick f (Refused 12) (Set (Stream (starts_with 52 s))))))))) ≡ 11
     → Eleven s n
 unfolding pick
 eleven s n false false false true e f p q r t u v h = record { some = p; formed = q; busy = r; why = inl (not-true _ t) }
@@ -139,83 +139,83 @@ eleven s n false false false false false true p q r t u v h = absurd (omega arit
 eleven s n false false false false false false p q r t u v h = absurd (omega arith)
 
 abbrev Outside : List ℕ → List ℕ → Type 0
-Outside codes s = (m : ℕ) × (ts : List (List ℕ)) × (s ≡ m ∷ entriesText ts) × (isDigit m ≡ true) × (every isSource ts ≡ true) × (m ≡ 48 → ⊥) × (m ≡ 52 → every (isKnownText codes) ts ≡ false)
+Outside codes s = (m : ℕ) × (ts : List (List ℕ)) × (s ≡ m ∷ entries_text ts) × (is_digit m ≡ true) × (every is_source ts ≡ true) × (m ≡ 48 → ⊥) × (m ≡ 52 → every (is_known_text codes) ts ≡ false)
 
-digit-first : (x : ℕ) (t : List ℕ) → eqb (leading (x ∷ t)) 0 ≡ false → isDigit x ≡ true
+digit_first : (x : ℕ) (t : List ℕ) → eqb (leading (x ∷ t)) 0 ≡ false → is_digit x ≡ true
 unfolding leading
-digit-first x t e = go (isDigit x) e
+digit_first x t e = go (is_digit x) e
   where
     go : (b : Bool) → eqb (cond b (leading t + 1) 0) 0 ≡ false → b ≡ true
     go true h = refl
     go false h = absurd (true≢false h)
 
 -- another mode is neither `0` nor `4`
-other-mode : (x y : ℕ) (t : List ℕ) → (y ≡ 48) ⊎ (y ≡ 52) → knownMode (x ∷ t) ≡ false → x ≡ y → ⊥
-unfolding knownMode starts_with
-other-mode x y t (inl e) k h = true≢false (rw (eq-eqb x 48 (h ∙ e)) at k)
-other-mode x y t (inr e) k h = true≢false (rw (eq-eqb x 52 (h ∙ e), or-true) at k)
+other_mode : (x y : ℕ) (t : List ℕ) → (y ≡ 48) ⊎ (y ≡ 52) → known_mode (x ∷ t) ≡ false → x ≡ y → ⊥
+unfolding known_mode starts_with
+other_mode x y t (inl e) k h = true≢false (rw (eq-eqb x 48 (h ∙ e)) at k)
+other_mode x y t (inr e) k h = true≢false (rw (eq-eqb x 52 (h ∙ e), or_true) at k)
 
-not-0 : (limits : ProfileLimits) (x : ℕ) (t : List ℕ) → Eleven (x ∷ t) (entriesNumber limits.sourceCodes t) → x ≡ 48 → ⊥
-not-0 limits x t w h = go w.why
+not_0 : (limits : ProfileLimits) (x : ℕ) (t : List ℕ) → Eleven (x ∷ t) (entries_number limits.source_codes t) → x ≡ 48 → ⊥
+not_0 limits x t w h = go w.why
   where
-    go : (knownMode (x ∷ t) ≡ false) ⊎ (eqb (entriesNumber limits.sourceCodes t) 11 ≡ true) → ⊥
-    go (inl k) = other-mode x 48 t (inl refl) k h
-    go (inr n) = omega (arith, eqb-true (entriesNumber limits.sourceCodes t) 11 n, no-list limits t (rw h at w.busy))
+    go : (known_mode (x ∷ t) ≡ false) ⊎ (eqb (entries_number limits.source_codes t) 11 ≡ true) → ⊥
+    go (inl k) = other_mode x 48 t (inl refl) k h
+    go (inr n) = omega (arith, eqb-true (entries_number limits.source_codes t) 11 n, no_list limits t (rw h at w.busy))
 
-not_known : (limits : ProfileLimits) (x : ℕ) (t : List ℕ) → Eleven (x ∷ t) (entriesNumber limits.sourceCodes t) → x ≡ 52 → every (isKnownText limits.sourceCodes) (sourceTexts t) ≡ false
-unfolding entriesOf
+not_known : (limits : ProfileLimits) (x : ℕ) (t : List ℕ) → Eleven (x ∷ t) (entries_number limits.source_codes t) → x ≡ 52 → every (is_known_text limits.source_codes) (source_texts t) ≡ false
+unfolding entries_of
 not_known limits x t w h = go w.why
   where
-    go : (knownMode (x ∷ t) ≡ false) ⊎ (eqb (entriesNumber limits.sourceCodes t) 11 ≡ true) → every (isKnownText limits.sourceCodes) (sourceTexts t) ≡ false
-    go (inl k) = absurd (other-mode x 52 t (inr refl) k h)
-    go (inr n) = sym (all_known limits.sourceCodes (sourceTexts t)) ∙ unknown limits.sourceCodes t n
+    go : (known_mode (x ∷ t) ≡ false) ⊎ (eqb (entries_number limits.source_codes t) 11 ≡ true) → every (is_known_text limits.source_codes) (source_texts t) ≡ false
+    go (inl k) = absurd (other_mode x 52 t (inr refl) k h)
+    go (inr n) = sym (all_known limits.source_codes (source_texts t)) ∙ unknown limits.source_codes t n
 
-outside : (limits : ProfileLimits) (s : List ℕ) → Eleven s (entriesNumber limits.sourceCodes (drop 1 s)) → Outside limits.sourceCodes s
-unfolding entriesOf leading
+outside : (limits : ProfileLimits) (s : List ℕ) → Eleven s (entries_number limits.source_codes (drop 1 s)) → Outside limits.source_codes s
+unfolding entries_of leading
 outside limits [] w = absurd (true≢false w.some)
 outside limits (x ∷ t) w =
-    let f = of-form limits.sourceCodes t w.formed in
-    (x, sourceTexts t, rw (joined-texts t f.0), digit-first x t w.some, sym (all-formed limits.sourceCodes (sourceTexts t)) ∙ f.1, not-0 limits x t w, not_known limits x t w)
+    let f = of_form limits.source_codes t w.formed in
+    (x, source_texts t, rw (joined_texts t f.0), digit_first x t w.some, sym (all_formed limits.source_codes (source_texts t)) ∙ f.1, not_0 limits x t w, not_known limits x t w)
 
 -- ---- and the other way round
 
 -- how entries of the form are judged
-texts-number : (limits : ProfileLimits) (ts : List (List ℕ)) → every isSource ts ≡ true → entriesNumber limits.sourceCodes (entriesText ts) ≡ pick (not (every (isKnownText limits.sourceCodes) ts)) 11 (rest limits.sourceCodes (entriesText ts))
-unfolding entriesOf
-texts-number limits ts f =
-    let e : sourceTexts (entriesText ts) ≡ ts = texts-back ts (all-lack ts f) in
-    let k : every isKnown (map (sourceOf limits.sourceCodes) (sourceTexts (entriesText ts))) ≡ every (isKnownText limits.sourceCodes) ts = ap (λ (us : List (List ℕ)). every isKnown (map (sourceOf limits.sourceCodes) us)) e ∙ all_known limits.sourceCodes ts in
-    by-known limits.sourceCodes (entriesText ts) (opens-texts ts) (ap (λ (us : List (List ℕ)). every isFormed (map (sourceOf limits.sourceCodes) us)) e ∙ all-formed limits.sourceCodes ts ∙ f) ∙ ap (λ (b : Bool). pick (not b) 11 (rest limits.sourceCodes (entriesText ts))) k
+texts_number : (limits : ProfileLimits) (ts : List (List ℕ)) → every is_source ts ≡ true → entries_number limits.source_codes (entries_text ts) ≡ pick (not (every (is_known_text limits.source_codes) ts)) 11 (rest limits.source_codes (entries_text ts))
+unfolding entries_of
+texts_number limits ts f =
+    let e : source_texts (entries_text ts) ≡ ts = texts_back ts (all_lack ts f) in
+    let k : every is_known (map (source_of limits.source_codes) (source_texts (entries_text ts))) ≡ every (is_known_text limits.source_codes) ts = ap (λ (us : List (List ℕ)). every is_known (map (source_of limits.source_codes) us)) e ∙ all_known limits.source_codes ts in
+    by_known limits.source_codes (entries_text ts) (opens_texts ts) (ap (λ (us : List (List ℕ)). every is_formed (map (source_of limits.source_codes) us)) e ∙ all_formed limits.source_codes ts ∙ f) ∙ ap (λ (b : Bool). pick (not b) 11 (rest limits.source_codes (entries_text ts))) k
 
 -- it is not 10
-not-10 : (b d : Bool) → eqb (pick b 11 (pick d 12 0)) 10 ≡ false
+not_10 : (b d : Bool) → eqb (pick b 11 (pick d 12 0)) 10 ≡ false
 unfolding pick
-not-10 true d = refl
-not-10 false true = refl
-not-10 false false = refl
+not_10 true d = refl
+not_10 false true = refl
+not_10 false false = refl
 
-refused : (limits : ProfileLimits) (m : ℕ) (ts : List (List ℕ)) → isDigit m ≡ true → every isSource ts ≡ true → (m ≡ 48 → ⊥) → (m ≡ 52 → every (isKnownText limits.sourceCodes) ts ≡ false) → streamData limits (m ∷ entriesText ts) ≡ Refused 11
-unfolding streamData streamOf leading starts_with idleList knownMode pick
+refused : (limits : ProfileLimits) (m : ℕ) (ts : List (List ℕ)) → is_digit m ≡ true → every is_source ts ≡ true → (m ≡ 48 → ⊥) → (m ≡ 52 → every (is_known_text limits.source_codes) ts ≡ false) → stream_data limits (m ∷ entries_text ts) ≡ Refused 11
+unfolding stream_data stream_of leading starts_with idle_list known_mode pick
 refused limits m ts d f z k = go (eqb m 52) refl
   where
     n : ℕ
-    n = entriesNumber limits.sourceCodes (entriesText ts)
+    n = entries_number limits.source_codes (entries_text ts)
 
-    l : eqb (leading (entriesText ts) + 1) 0 ≡ false
-    l = ne_eqb (leading (entriesText ts) + 1) 0 (λ (e : leading (entriesText ts) + 1 ≡ 0). omega arith)
+    l : eqb (leading (entries_text ts) + 1) 0 ≡ false
+    l = ne_eqb (leading (entries_text ts) + 1) 0 (λ (e : leading (entries_text ts) + 1 ≡ 0). omega arith)
 
     formed : eqb n 10 ≡ false
-    formed = rw (texts-number limits ts f) (not-10 (not (every (isKnownText limits.sourceCodes) ts)) (not (standOnce (map code_of (entriesOf limits.sourceCodes (entriesText ts))))))
+    formed = rw (texts_number limits ts f) (not_10 (not (every (is_known_text limits.source_codes) ts)) (not (stand_once (map code_of (entries_of limits.source_codes (entries_text ts))))))
 
-    go : (b : Bool) → eqb m 52 ≡ b → streamData limits (m ∷ entriesText ts) ≡ Refused 11
+    go : (b : Bool) → eqb m 52 ≡ b → stream_data limits (m ∷ entries_text ts) ≡ Refused 11
     go true e =
-        let eleven : n ≡ 11 = texts-number limits ts f ∙ rw (k (eqb-true m 52 e)) in
+        let eleven : n ≡ 11 = texts_number limits ts f ∙ rw (k (eqb-true m 52 e)) in
         rw (d, l, eleven, ne_eqb m 48 z, e)
     go false e = rw (d, l, formed, ne_eqb m 48 z, e)
 
-pub range-exactly : RangeExactly
-unfolding verdictOf streamData streamOf
-range-exactly limits s = (
-  λ e. outside limits s (eleven s (entriesNumber limits.sourceCodes (drop 1 s)) _ _ _ _ _ _ refl refl refl refl refl refl (ap verdictNumber e)),
+pub range_exactly : RangeExactly
+unfolding verdict_of stream_data stream_of
+range_exactly limits s = (
+  λ e. outside limits s (eleven s (entries_number limits.source_codes (drop 1 s)) _ _ _ _ _ _ refl refl refl refl refl refl (ap verdict_number e)),
   λ w. rw w.2 (refused limits w.0 w.1 w.3 w.4 w.5 w.6),
 )

@@ -2,15 +2,15 @@
 -- papers.
 use Rattle.std.specs.Prelude.{Bool, List, [], ◌∷◌, map, ℕ, eqb}
 use Prim.Native.String.{String}
-use Rattle.buffer.specs.Byte.{sameText}
+use Rattle.buffer.specs.Byte.{same_text}
 use Rattle.sources.specs.declared.Profile.{Profile}
 use Rattle.sources.specs.declared.Profile.TheVariants.{Standard, Vsh, Vsm}
-use Rattle.settings.specs.Limits.{limitsOf}
+use Rattle.settings.specs.Limits.{limits_of}
 use Rattle.settings.specs.Settings.{factory, put_of}
-use Rattle.settings.specs.Sent.{readText}
+use Rattle.settings.specs.Sent.{read_text}
 use Rattle.settings.specs.declared.Key.{Key}
 use Rattle.settings.specs.declared.Key.TheVariants.{DA, DU, C1, CM, CC, FC, ST, SM}
-use Rattle.forms.specs.Judged.{verdictOf, verdictNumber, listIn}
+use Rattle.forms.specs.Judged.{verdict_of, verdict_number, list_in}
 use Rattle.forms.specs.declared.Verdict.{Verdict}
 use Rattle.forms.specs.declared.Verdict.TheVariants.{Set, Refused}
 use Rattle.buffer.specs.Quoted.{bytes}
@@ -133,7 +133,7 @@ cases =
     ∷ []
 
 abbrev pub right : Case → Bool
-right c = eqb (verdictNumber (verdictOf (limitsOf Standard) c.key c.text)) c.number
+right c = eqb (verdict_number (verdict_of (limits_of Standard) c.key c.text)) c.number
 
 -- a write's data to a gauge at factory settings, and what a read then sends
 pub record Sends : Type 0 where
@@ -163,12 +163,12 @@ sends =
     ∷ []
 
 -- what a read sends after this write
-abbrev pub sentAfter : Key → List ℕ → Verdict → List ℕ
-sentAfter key text (Set x) = readText key (put_of (factory (limitsOf Standard)) x (listIn (limitsOf Standard) key text))
-sentAfter key text (Refused k) = []
+abbrev pub sent_after : Key → List ℕ → Verdict → List ℕ
+sent_after key text (Set x) = read_text key (put_of (factory (limits_of Standard)) x (list_in (limits_of Standard) key text))
+sent_after key text (Refused k) = []
 
 abbrev pub well : Sends → Bool
-well c = sameText (sentAfter c.key c.text (verdictOf (limitsOf Standard) c.key c.text)) c.sent
+well c = same_text (sent_after c.key c.text (verdict_of (limits_of Standard) c.key c.text)) c.sent
 
 -- ---- the profiles
 
@@ -229,8 +229,8 @@ profiled =
     ∷ gives DA "017" 11 11 11
     ∷ []
 
-abbrev pub numbersOf : Profiled → List ℕ
-numbersOf c = map (λ (p : Profile). verdictNumber (verdictOf (limitsOf p) c.key c.text)) (Vsh ∷ Vsm ∷ Standard ∷ [])
+abbrev pub numbers_of : Profiled → List ℕ
+numbers_of c = map (λ (p : Profile). verdict_number (verdict_of (limits_of p) c.key c.text)) (Vsh ∷ Vsm ∷ Standard ∷ [])
 
-abbrev pub printedNumbers : Profiled → List ℕ
-printedNumbers c = c.numbers
+abbrev pub printed_numbers : Profiled → List ℕ
+printed_numbers c = c.numbers

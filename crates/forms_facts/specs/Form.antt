@@ -5,9 +5,9 @@ use Rattle.decimal.specs.Exact.{units}
 use Rattle.decimal.specs.Form.{number_of}
 use Rattle.decimal.specs.declared.Number.{Number}
 use Rattle.decimal.specs.declared.Parsed.TheVariants.{Value}
-use Rattle.sources.specs.Source.{listText}
+use Rattle.sources.specs.Source.{list_text}
 use Rattle.settings.specs.Limits.{ProfileLimits}
-use Rattle.settings.specs.Sent.{unitText, streamText}
+use Rattle.settings.specs.Sent.{unit_text, stream_text}
 use Rattle.settings.specs.declared.Transition.TheVariants.{Direct, Between}
 use Rattle.settings.specs.declared.Setting.{Setting}
 use Rattle.settings.specs.declared.Setting.TheVariants.{Address, PressureIn, Factor, Control, Cathode, Filament, Switch, Stream}
@@ -17,14 +17,14 @@ use Rattle.forms_facts.specs.Codes.{GoodList}
 -- one digit; `D` number, or `F` number `T` number; the mode, with a list if it is 4
 abbrev pub Form : ProfileLimits → List ℕ → Setting → Type 0
 Form limits s (Address v) = s ≡ digits3 v
-Form limits s (PressureIn u) = s ≡ unitText u
+Form limits s (PressureIn u) = s ≡ unit_text u
 Form limits s (Factor h) = (n : Number) × (number_of s ≡ Value n) × (n.negative ≡ false) × (units n ≡ h * 10 ^ 12)
 Form limits s (Control d) = s ≡ (d + 48) ∷ []
 Form limits s (Cathode d) = s ≡ (d + 48) ∷ []
 Form limits s (Filament d) = s ≡ (d + 48) ∷ []
 Form limits s (Switch (Direct n)) = (t : List ℕ) × (s ≡ 68 ∷ t) × (number_of t ≡ Value n)
 Form limits s (Switch (Between a b)) = (t : List ℕ) × (u : List ℕ) × (s ≡ 70 ∷ (t ++ 84 ∷ u)) × (number_of t ≡ Value a) × (number_of u ≡ Value b)
-Form limits s (Stream on) = (list : List ℕ) × GoodList limits.sourceCodes list × (s ≡ streamText on list)
+Form limits s (Stream on) = (list : List ℕ) × GoodList limits.source_codes list × (s ≡ stream_text on list)
 
 -- the text has the form with this value and this list of sources beside it: SM's `0` has none, its `4` is followed by the list, each entry
 -- `D` and a source's text, in order; no other setting has one
@@ -37,4 +37,4 @@ FormWith limits s (Cathode d) list = Form limits s (Cathode d) × (list ≡ [])
 FormWith limits s (Filament d) list = Form limits s (Filament d) × (list ≡ [])
 FormWith limits s (Switch t) list = Form limits s (Switch t) × (list ≡ [])
 FormWith limits s (Stream false) list = (s ≡ 48 ∷ []) × (list ≡ [])
-FormWith limits s (Stream true) list = s ≡ 52 ∷ listText list
+FormWith limits s (Stream true) list = s ≡ 52 ∷ list_text list

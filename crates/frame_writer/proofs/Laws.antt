@@ -14,11 +14,11 @@ use Rattle.buffer.proofs.Rules.{rules}
 use Rattle.frames.specs.Checksum.{end_of, closed}
 use Rattle.frames.specs.declared.HeadV1.{HeadV1}
 use Rattle.frames.specs.declared.HeadV2.{HeadV2}
-use Rattle.frame_writer.specs.Written.{carriesV1, carriesV2, frameWritten, frameV1, frameV2, writtenV1, writtenV2}
+use Rattle.frame_writer.specs.Written.{carries_v1, carries_v2, frame_written, frame_v1, frame_v2, written_v1, written_v2}
 
-pub length-closed : (head bytes : List ℕ) → length (closed (head ++ bytes)) ≡ length head + length bytes + 2
+pub length_closed : (head bytes : List ℕ) → length (closed (head ++ bytes)) ≡ length head + length bytes + 2
 unfolding closed end_of
-length-closed head bytes = simp length-append (omega arith)
+length_closed head bytes = simp length-append (omega arith)
 
 -- a body stored at the front, and then its checksum and CR: the closed body is stored
 pub closes : {m m₁ m₂ b : List ℕ} (p : ℕ) → Stored m 0 b m₁ → p ≡ length b → length b ≤ length m → Stored m₁ p (end_of (take p m₁)) m₂ → Stored m 0 (closed b) m₂
@@ -27,42 +27,42 @@ closes p f n h g = then p f (n ∙ sym (zero-add _)) (rw (front p f n h) at g)
 
 -- what a frame's writer answers, by its tests
 module _ (room : ℕ) (carried : Bool) (address : ℕ) (frame : List ℕ) where
-  pub no_room : room < length frame → frameWritten room carried address frame ≡ silent 1
-  unfolding frameWritten
+  pub no_room : room < length frame → frame_written room carried address frame ≡ silent 1
+  unfolding frame_written
   no_room h = sym (search rules)
 
-  pub no-frame : length frame ≤ room → not carried ≡ true → frameWritten room carried address frame ≡ silent 2
-  unfolding frameWritten
-  no-frame h k = sym (search rules)
+  pub no_frame : length frame ≤ room → not carried ≡ true → frame_written room carried address frame ≡ silent 2
+  unfolding frame_written
+  no_frame h k = sym (search rules)
 
-  pub outside : length frame ≤ room → not carried ≡ false → not (within 1 999 address) ≡ true → frameWritten room carried address frame ≡ silent 4
-  unfolding frameWritten
+  pub outside : length frame ≤ room → not carried ≡ false → not (within 1 999 address) ≡ true → frame_written room carried address frame ≡ silent 4
+  unfolding frame_written
   outside h k o = sym (search rules)
 
   pub written : length frame ≤ room → not carried ≡ false → not (within 1 999 address) ≡ false
-      → frameWritten room carried address frame ≡ record { number = 0; reply = frame }
-  unfolding frameWritten
+      → frame_written room carried address frame ≡ record { number = 0; reply = frame }
+  unfolding frame_written
   written h k o = sym (search rules)
 
 -- ---- frames that fit are written whole
 
-pub length-v2 : (h : HeadV2) (bytes : List ℕ) → length (frameV2 h bytes) ≡ 10 + length bytes
-unfolding frameV2
-length-v2 h bytes =
-    let e = length-closed (digits3 h.address ++ (h.access ∷ h.first ∷ h.second ∷ []) ++ digits2 (length bytes)) bytes in
+pub length_v2 : (h : HeadV2) (bytes : List ℕ) → length (frame_v2 h bytes) ≡ 10 + length bytes
+unfolding frame_v2
+length_v2 h bytes =
+    let e = length_closed (digits3 h.address ++ (h.access ∷ h.first ∷ h.second ∷ []) ++ digits2 (length bytes)) bytes in
     omega (arith, e)
 
-pub length-v1 : (h : HeadV1) (bytes : List ℕ) → length (frameV1 h bytes) ≡ 6 + length bytes
-unfolding frameV1
-length-v1 h bytes =
-    let e = length-closed (digits3 h.address ++ (h.letter ∷ [])) bytes in
+pub length_v1 : (h : HeadV1) (bytes : List ℕ) → length (frame_v1 h bytes) ≡ 6 + length bytes
+unfolding frame_v1
+length_v1 h bytes =
+    let e = length_closed (digits3 h.address ++ (h.letter ∷ [])) bytes in
     omega (arith, e)
 
 module _ (m m' bytes : List ℕ) (w : Written) where
-  pub sent-v2 : (h : HeadV2) → 10 + length bytes ≤ length m → carriesV2 h bytes ≡ true → within 1 999 h.address ≡ true → Sent m (writtenV2 (length m) h bytes) m' w
-      → Sent m (record { number = 0; reply = frameV2 h bytes }) m' w
-  sent-v2 h r c a s = rw (written (length m) (carriesV2 h bytes) h.address (frameV2 h bytes) (omega (arith, length-v2 h bytes)) (ap not c) (ap not a)) at s
+  pub sent_v2_lem : (h : HeadV2) → 10 + length bytes ≤ length m → carries_v2 h bytes ≡ true → within 1 999 h.address ≡ true → Sent m (written_v2 (length m) h bytes) m' w
+      → Sent m (record { number = 0; reply = frame_v2 h bytes }) m' w
+  sent_v2_lem h r c a s = rw (written (length m) (carries_v2 h bytes) h.address (frame_v2 h bytes) (omega (arith, length_v2 h bytes)) (ap not c) (ap not a)) at s
 
-  pub sent-v1 : (h : HeadV1) → 6 + length bytes ≤ length m → carriesV1 h bytes ≡ true → within 1 999 h.address ≡ true → Sent m (writtenV1 (length m) h bytes) m' w
-      → Sent m (record { number = 0; reply = frameV1 h bytes }) m' w
-  sent-v1 h r c a s = rw (written (length m) (carriesV1 h bytes) h.address (frameV1 h bytes) (omega (arith, length-v1 h bytes)) (ap not c) (ap not a)) at s
+  pub sent_v1 : (h : HeadV1) → 6 + length bytes ≤ length m → carries_v1 h bytes ≡ true → within 1 999 h.address ≡ true → Sent m (written_v1 (length m) h bytes) m' w
+      → Sent m (record { number = 0; reply = frame_v1 h bytes }) m' w
+  sent_v1 h r c a s = rw (written (length m) (carries_v1 h bytes) h.address (frame_v1 h bytes) (omega (arith, length_v1 h bytes)) (ap not c) (ap not a)) at s

@@ -1,9 +1,9 @@
--- To compute with these definitions: `unfolding frame-writer-open` opens every one of this crate, and those that they stand on.
-use Rattle.frames.proofs.Open.{frames-open}
-use Rattle.error_texts.proofs.Open.{error-texts-open}
-use Rattle.frame_writer.specs.Error.{errorHeadV2, errorLetterV1, errorDataV1, errorHeadV1}
-use Rattle.frame_writer.specs.Written.{frameV2, frameV1, dataFit, carriesV2, carriesV1, frameWritten}
+-- To compute with these definitions: `unfolding frame_writer_open` opens every one of this crate, and those that they stand on.
+use Rattle.frames.proofs.Open.{frames_open}
+use Rattle.error_texts.proofs.Open.{error_texts_open}
+use Rattle.frame_writer.specs.Error.{error_head_v2, error_letter_v1, error_data_v1, error_head_v1}
+use Rattle.frame_writer.specs.Written.{frame_v2, frame_v1, data_fit, carries_v2, carries_v1, frame_written}
 
-unfoldable pub frame-writer-open : Unit {0}
-unfolding frames-open error-texts-open errorHeadV2 errorLetterV1 errorDataV1 errorHeadV1 frameV2 frameV1 dataFit carriesV2 carriesV1 frameWritten
-frame-writer-open = tt
+unfoldable pub frame_writer_open : Unit {0}
+unfolding frames_open error_texts_open error_head_v2 error_letter_v1 error_data_v1 error_head_v1 frame_v2 frame_v1 data_fit carries_v2 carries_v1 frame_written
+frame_writer_open = tt

@@ -4,9 +4,9 @@ ghost use Rattle.std.specs.Prelude.{◌≡◌, ◌++◌, ◌≤◌, length, take
 ghost use Rattle.buffer.specs.Answer.{Stored, Sent};
 ghost use Rattle.buffer.specs.Text.{text_of};
 ghost use Rattle.frames.specs.Checksum.{end_of, closed};
-ghost use Rattle.frame_writer.specs.Written.{dataFit, isAddress, carriesV2, carriesV1, frameWritten, writtenV2, writtenV1};
-ghost use Rattle.error_texts.specs.Texts.{errorBytes, errorOf};
-ghost use Rattle.frame_writer.specs.Error.{errorHeadV2, errorHeadV1, errorDataV1};
+ghost use Rattle.frame_writer.specs.Written.{data_fit, is_address, carries_v2, carries_v1, frame_written, written_v2, written_v1};
+ghost use Rattle.error_texts.specs.Texts.{error_bytes, error_of};
+ghost use Rattle.frame_writer.specs.Error.{error_head_v2, error_head_v1, error_data_v1};
 
 // Stores the checksum of all that stands before `at`, and CR: the end of a frame and of a frameless line.
 pub fn put_end(out: &mut [u8], at: usize)
@@ -21,14 +21,14 @@ pub fn put_end(out: &mut [u8], at: usize)
 
 // An address that a frame can hold: 1 to 999.
 pub fn is_address(address: u16) -> bool
-    ensures { result ≡ isAddress address }
+    ensures { result ≡ is_address address }
 {
     1 <= address && address <= 999
 }
 
 // Whether a frame can carry these data: at most `most` bytes of 32 to 126.
 fn data_fit(bytes: &[u8], most: usize) -> bool
-    ensures { result ≡ dataFit most bytes.now }
+    ensures { result ≡ data_fit most bytes.now }
 {
     if most < bytes.len() {
         return false;
@@ -38,7 +38,7 @@ fn data_fit(bytes: &[u8], most: usize) -> bool
 
 // Whether a V2 frame can carry this head and these data.
 fn carries_v2(head: frames::HeadV2, bytes: &[u8]) -> bool
-    ensures { result ≡ carriesV2 head bytes.now }
+    ensures { result ≡ carries_v2 head bytes.now }
 {
     if !buffer::is_within(head.access, 48, 57) {
         return false;
@@ -54,7 +54,7 @@ fn carries_v2(head: frames::HeadV2, bytes: &[u8]) -> bool
 
 // Whether a V1 frame can carry this head and these data.
 fn carries_v1(head: frames::HeadV1, bytes: &[u8]) -> bool
-    ensures { result ≡ carriesV1 head bytes.now }
+    ensures { result ≡ carries_v1 head bytes.now }
 {
     if !frames::is_letter(head.letter) {
         return false;
@@ -72,7 +72,7 @@ fn write_frame(
     carried: bool,
 ) -> buffer::Written
     requires { length head.now ≤ 8 }
-    ensures { Sent out.old (frameWritten (length out.old) carried address (closed (head.now ++ bytes.now))) out.new result }
+    ensures { Sent out.old (frame_written (length out.old) carried address (closed (head.now ++ bytes.now))) out.new result }
 {
     let k = head.len();
     let n = bytes.len();
@@ -97,7 +97,7 @@ fn write_frame(
 // Writes a V2 frame with these data. Refuses with 1, 2 (the access code is no digit, a byte of the command or of the data is outside 32 to
 // 126, or the data are over 99 bytes) or 4; then out stays as it was.
 pub fn write_v2(out: &mut [u8], head: frames::HeadV2, bytes: &[u8]) -> buffer::Written
-    ensures { Sent out.old (writtenV2 (length out.old) head bytes.now) out.new result }
+    ensures { Sent out.old (written_v2 (length out.old) head bytes.now) out.new result }
 {
     let address = head.address;
     let n = bytes.len();
@@ -118,7 +118,7 @@ pub fn write_v2(out: &mut [u8], head: frames::HeadV2, bytes: &[u8]) -> buffer::W
 // Writes a V1 frame with these data. Refuses with 1, 2 (the letter is none, a byte of the data is outside 32 to 126, or the data are over 6
 // bytes) or 4; then out stays as it was.
 pub fn write_v1(out: &mut [u8], head: frames::HeadV1, bytes: &[u8]) -> buffer::Written
-    ensures { Sent out.old (writtenV1 (length out.old) head bytes.now) out.new result }
+    ensures { Sent out.old (written_v1 (length out.old) head bytes.now) out.new result }
 {
     let address = head.address;
     let start = [
@@ -133,7 +133,7 @@ pub fn write_v1(out: &mut [u8], head: frames::HeadV1, bytes: &[u8]) -> buffer::W
 
 // Writes a V2 frame whose data are a short text.
 pub fn write_text_v2(out: &mut [u8], head: frames::HeadV2, text: buffer::Text) -> buffer::Written
-    ensures sent { Sent out.old (writtenV2 (length out.old) head (text_of text)) out.new result }
+    ensures sent { Sent out.old (written_v2 (length out.old) head (text_of text)) out.new result }
     ensures text_len_bound { length (text_of text) ≤ 24 }
 {
     let n = text.size();
@@ -143,7 +143,7 @@ pub fn write_text_v2(out: &mut [u8], head: frames::HeadV2, text: buffer::Text) -
 
 // Writes a V1 frame whose data are a short text.
 pub fn write_text_v1(out: &mut [u8], head: frames::HeadV1, text: buffer::Text) -> buffer::Written
-    ensures { Sent out.old (writtenV1 (length out.old) head (text_of text)) out.new result }
+    ensures { Sent out.old (written_v1 (length out.old) head (text_of text)) out.new result }
 {
     let n = text.size();
     let bytes = text.bytes;
@@ -154,7 +154,7 @@ pub fn write_text_v1(out: &mut [u8], head: frames::HeadV1, text: buffer::Text) -
 
 // Writes the error frame that answers a V2 request with this head.
 pub fn write_error_v2(out: &mut [u8], head: frames::HeadV2, number: u8) -> buffer::Written
-    ensures { Sent out.old (writtenV2 (length out.old) (errorHeadV2 head) (errorBytes (errorOf number))) out.new result }
+    ensures { Sent out.old (written_v2 (length out.old) (error_head_v2 head) (error_bytes (error_of number))) out.new result }
 {
     let text = error_texts::error_bytes(error_texts::error_of(number));
     let answer = frames::HeadV2 {
@@ -168,7 +168,7 @@ pub fn write_error_v2(out: &mut [u8], head: frames::HeadV2, number: u8) -> buffe
 
 // Writes the error frame that answers a V1 request with this head.
 pub fn write_error_v1(out: &mut [u8], head: frames::HeadV1, number: u8) -> buffer::Written
-    ensures { Sent out.old (writtenV1 (length out.old) (errorHeadV1 number head) (errorDataV1 number)) out.new result }
+    ensures { Sent out.old (written_v1 (length out.old) (error_head_v1 number head) (error_data_v1 number)) out.new result }
 {
     let address = head.address;
     if number == 8 {

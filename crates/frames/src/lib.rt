@@ -3,14 +3,14 @@
 ghost use Rattle.std.specs.Prelude.{◌≡◌, ◌≤◌, [], ◌∷◌, length};
 ghost use Rattle.buffer.specs.First.{◌⇒◌, first};
 ghost use Rattle.buffer.specs.Byte.{within, every};
-ghost use Rattle.frames.specs.Checksum.{checksumOf};
-ghost use Rattle.frames.specs.Frame.{isLetter, dataFrom, lengthFits, misshapen, wrongSum, wrongAddress, wrongLength, frame_of};
+ghost use Rattle.frames.specs.Checksum.{checksum_of};
+ghost use Rattle.frames.specs.Frame.{is_letter, data_from, length_fits, misshapen, wrong_sum, wrong_address, wrong_length, frame_of};
 
 // ---- the checksum
 
 // The sum of all bytes of s, mod 64, plus 64.
 pub fn checksum(s: &[u8]) -> u8
-    ensures { result ≡ checksumOf s.now }
+    ensures { result ≡ checksum_of s.now }
 {
     let mut sum: u8 = 0;
     let mut i: usize = 0;
@@ -50,7 +50,7 @@ pub enum Frame {
 
 // Whether a byte is a letter A-Z or a-z.
 pub fn is_letter(b: u8) -> bool
-    ensures { result ≡ isLetter b }
+    ensures { result ≡ is_letter b }
 {
     if buffer::is_within(b, 65, 90) {
         return true;
@@ -59,7 +59,7 @@ pub fn is_letter(b: u8) -> bool
 }
 
 fn length_fits(s: &[u8]) -> bool
-    ensures { result ≡ lengthFits s.now }
+    ensures { result ≡ length_fits s.now }
 {
     let n = s.len();
     if n < 6 {
@@ -77,7 +77,7 @@ fn length_fits(s: &[u8]) -> bool
 
 // The data of a frame of the form: from byte `start` to before the checksum. Empty where the bytes are too few.
 pub fn data_from<'a>(s: &'a [u8], start: usize) -> &'a [u8]
-    ensures { result.now ≡ dataFrom start s.now }
+    ensures { result.now ≡ data_from start s.now }
 {
     let n = s.len();
     if n < 2 {
@@ -91,14 +91,14 @@ pub fn data_from<'a>(s: &'a [u8], start: usize) -> &'a [u8]
 
 // The data of a V1 frame: after the address and the letter.
 pub fn data_v1<'a>(s: &'a [u8]) -> &'a [u8]
-    ensures { result.now ≡ dataFrom 4 s.now }
+    ensures { result.now ≡ data_from 4 s.now }
 {
     data_from(s, 4)
 }
 
 // The data of a V2 frame: after the address, the access code, the command and LEN.
 pub fn data_v2<'a>(s: &'a [u8]) -> &'a [u8]
-    ensures { result.now ≡ dataFrom 8 s.now }
+    ensures { result.now ≡ data_from 8 s.now }
 {
     data_from(s, 8)
 }
@@ -106,7 +106,7 @@ pub fn data_v2<'a>(s: &'a [u8]) -> &'a [u8]
 // The checksum of s, or 0 where a byte of s lies outside 32 to 126. (No checksum is 0.) The sum wraps at 256, a multiple of 64: beside the
 // test of each byte this is the faster form, in `checksum` the other one is.
 fn printed_sum(s: &[u8]) -> u8
-    ensures { result ≡ first (every (within 32 126) s.now ⇒ checksumOf s.now ∷ []) 0 }
+    ensures { result ≡ first (every (within 32 126) s.now ⇒ checksum_of s.now ∷ []) 0 }
 {
     let mut sum: u8 = 0;
     let mut i: usize = 0;
@@ -123,7 +123,7 @@ fn printed_sum(s: &[u8]) -> u8
 
 fn has_wrong_address(s: &[u8]) -> bool
     requires { 3 ≤ length s.now }
-    ensures { result ≡ wrongAddress s.now }
+    ensures { result ≡ wrong_address s.now }
 {
     if !buffer::all_within(&s[..3], 48, 57) {
         return true;
@@ -133,7 +133,7 @@ fn has_wrong_address(s: &[u8]) -> bool
 
 // The first of 2 SHAPE, 3 CHECKSUM and 4 ADDRESS that applies, or 0. The bytes before the checksum are read once.
 fn refusal(s: &[u8]) -> u8
-    ensures { result ≡ first (misshapen s.now ⇒ 2 ∷ wrongSum s.now ⇒ 3 ∷ wrongAddress s.now ⇒ 4 ∷ []) 0 }
+    ensures { result ≡ first (misshapen s.now ⇒ 2 ∷ wrong_sum s.now ⇒ 3 ∷ wrong_address s.now ⇒ 4 ∷ []) 0 }
 {
     if !length_fits(s) {
         return 2;
@@ -161,7 +161,7 @@ fn refusal(s: &[u8]) -> u8
 
 fn has_wrong_length(s: &[u8]) -> bool
     requires { 10 ≤ length s.now }
-    ensures { result ≡ wrongLength s.now }
+    ensures { result ≡ wrong_length s.now }
 {
     let len = &s[6..8];
     if !buffer::all_within(len, 48, 57) {

@@ -1,16 +1,16 @@
 -- Document 01, "Text frames" and the reply column of its table: worked cases, their bytes and numbers taken from the paper.
 use Rattle.std.specs.Prelude.{Bool, List, [], ◌∷◌, ℕ, eqb}
 use Prim.Native.String.{String}
-use Rattle.buffer.specs.Byte.{at, sameText}
+use Rattle.buffer.specs.Byte.{at, same_text}
 use Rattle.buffer.specs.Answer.{Answer}
 use Rattle.buffer.specs.Quoted.{bytes}
 use Rattle.frames.specs.Checksum.{closed}
-use Rattle.frames.specs.Frame.{frame_of, frameNumber}
+use Rattle.frames.specs.Frame.{frame_of, frame_number}
 use Rattle.frames.specs.declared.HeadV1.{HeadV1}
 use Rattle.frames.specs.declared.HeadV2.{HeadV2}
-use Rattle.frame_writer.specs.Written.{frameV2, frameV1, writtenV2, writtenV1}
-use Rattle.error_texts.specs.Texts.{errorOf, errorBytes}
-use Rattle.frame_writer.specs.Error.{errorHeadV2, errorDataV1, errorHeadV1}
+use Rattle.frame_writer.specs.Written.{frame_v2, frame_v1, written_v2, written_v1}
+use Rattle.error_texts.specs.Texts.{error_of, error_bytes}
+use Rattle.frame_writer.specs.Error.{error_head_v2, error_data_v1, error_head_v1}
 
 -- ---- bytes that come, and the number that a reader of frames gives them: 0 is a frame
 
@@ -53,7 +53,7 @@ cases =
     ∷ []
 
 abbrev pub right : Case → Bool
-right c = eqb (frameNumber (frame_of c.text)) c.number
+right c = eqb (frame_number (frame_of c.text)) c.number
 
 -- ---- frames that are sent
 
@@ -62,39 +62,39 @@ pub record Sending : Type 0 where
   pub text : List ℕ
 
 -- the error frame of a V2 request to address 1 with this command, and of a V1 request with this letter
-abbrev pub errorV2 : String → ℕ → String → Sending
-errorV2 command number text =
+abbrev pub error_v2 : String → ℕ → String → Sending
+error_v2 command number text =
     let h : HeadV2 = record { address = 1; access = 48; first = at (bytes command) 0; second = at (bytes command) 1 } in
-    record { frame = frameV2 (errorHeadV2 h) (errorBytes (errorOf number)); text = bytes text }
+    record { frame = frame_v2 (error_head_v2 h) (error_bytes (error_of number)); text = bytes text }
 
-abbrev pub errorV1 : String → ℕ → String → Sending
-errorV1 letter number text =
+abbrev pub error_v1 : String → ℕ → String → Sending
+error_v1 letter number text =
     let h : HeadV1 = record { address = 1; letter = at (bytes letter) 0 } in
-    record { frame = frameV1 (errorHeadV1 number h) (errorDataV1 number); text = bytes text }
+    record { frame = frame_v1 (error_head_v1 number h) (error_data_v1 number); text = bytes text }
 
 abbrev pub sendings : List Sending
 sendings =
-    errorV2 "MV" 6 "0017MV06LENGTHS\r"
-    ∷ errorV2 "XX" 6 "0017XX06LENGTH`\r"
-    ∷ errorV2 "XX" 7 "0017XX06_LOGICk\r"
-    ∷ errorV2 "MR" 8 "0017MR06NO_DEFX\r"
-    ∷ errorV2 "MV" 9 "0017MV06_LOGIC^\r"
-    ∷ errorV2 "CC" 10 "0017CC06SYNTAX[\r"
-    ∷ errorV2 "CC" 11 "0017CC06_RANGE@\r"
-    ∷ errorV2 "CC" 12 "0017CC06_LOGICA\r"
-    ∷ errorV2 "T2" 13 "0017T206ERROR1o\r"
-    ∷ errorV1 "X" 8 "001NO_DEF\\\r"
-    ∷ errorV1 "c" 10 "001c_LOGICA\r"
-    ∷ errorV1 "c" 12 "001c_LOGICA\r"
-    ∷ errorV1 "c" 11 "001c_RANGE@\r"
-    ∷ errorV1 "C" 11 "001C_RANGE`\r"
-    ∷ errorV1 "M" 13 "001M1O\r"
+    error_v2 "MV" 6 "0017MV06LENGTHS\r"
+    ∷ error_v2 "XX" 6 "0017XX06LENGTH`\r"
+    ∷ error_v2 "XX" 7 "0017XX06_LOGICk\r"
+    ∷ error_v2 "MR" 8 "0017MR06NO_DEFX\r"
+    ∷ error_v2 "MV" 9 "0017MV06_LOGIC^\r"
+    ∷ error_v2 "CC" 10 "0017CC06SYNTAX[\r"
+    ∷ error_v2 "CC" 11 "0017CC06_RANGE@\r"
+    ∷ error_v2 "CC" 12 "0017CC06_LOGICA\r"
+    ∷ error_v2 "T2" 13 "0017T206ERROR1o\r"
+    ∷ error_v1 "X" 8 "001NO_DEF\\\r"
+    ∷ error_v1 "c" 10 "001c_LOGICA\r"
+    ∷ error_v1 "c" 12 "001c_LOGICA\r"
+    ∷ error_v1 "c" 11 "001c_RANGE@\r"
+    ∷ error_v1 "C" 11 "001C_RANGE`\r"
+    ∷ error_v1 "M" 13 "001M1O\r"
     -- the frameless line of 973.4
     ∷ record { frame = closed (bytes "9.734e2"); text = bytes "9.734e2\\\r" }
     ∷ []
 
 abbrev pub well : Sending → Bool
-well c = sameText c.frame c.text
+well c = same_text c.frame c.text
 
 -- ---- what a frame's writer answers: 0 is a frame
 
@@ -103,37 +103,37 @@ pub record Writing : Type 0 where
   pub number : ℕ
 
 -- a writer that is lent `room` bytes for a frame of this address, access and command (V1: letter) and data
-abbrev pub writingV2 : ℕ → ℕ → String → String → ℕ → Writing
-writingV2 room address start text number =
+abbrev pub writing_v2 : ℕ → ℕ → String → String → ℕ → Writing
+writing_v2 room address start text number =
     let s = bytes start in
     let h : HeadV2 = record { address = address; access = at s 0; first = at s 1; second = at s 2 } in
-    record { answer = writtenV2 room h (bytes text); number = number }
+    record { answer = written_v2 room h (bytes text); number = number }
 
-abbrev pub writingV1 : ℕ → ℕ → String → String → ℕ → Writing
-writingV1 room address letter text number =
+abbrev pub writing_v1 : ℕ → ℕ → String → String → ℕ → Writing
+writing_v1 room address letter text number =
     let h : HeadV1 = record { address = address; letter = at (bytes letter) 0 } in
-    record { answer = writtenV1 room h (bytes text); number = number }
+    record { answer = written_v1 room h (bytes text); number = number }
 
 abbrev pub writings : List Writing
 writings =
-    writingV2 14 1 "2DU" "mbar" 0
-    ∷ writingV1 12 999 "c" "000100" 0
+    writing_v2 14 1 "2DU" "mbar" 0
+    ∷ writing_v1 12 999 "c" "000100" 0
     -- ROOM
-    ∷ writingV2 13 1 "2DU" "mbar" 1
+    ∷ writing_v2 13 1 "2DU" "mbar" 1
     -- SHAPE: data that hold a frame of their own, which would change the address; a byte 31, and 127; an access code that is no digit; a command
     -- with CR; a letter that is none, seven data
-    ∷ writingV2 109 1 "2DU" "x\r0012DA03005@\r" 2
-    ∷ writingV2 109 1 "2DU" "mb\u{1f}r" 2
-    ∷ writingV2 109 1 "2DU" "mb\u{7f}r" 2
-    ∷ writingV2 109 1 "MDU" "mbar" 2
-    ∷ writingV2 109 1 "2\rU" "mbar" 2
-    ∷ writingV1 109 1 "0" "" 2
-    ∷ writingV1 109 1 "[" "" 2
-    ∷ writingV1 109 1 "c" "00010\r" 2
-    ∷ writingV1 109 1 "c" "0000100" 2
+    ∷ writing_v2 109 1 "2DU" "x\r0012DA03005@\r" 2
+    ∷ writing_v2 109 1 "2DU" "mb\u{1f}r" 2
+    ∷ writing_v2 109 1 "2DU" "mb\u{7f}r" 2
+    ∷ writing_v2 109 1 "MDU" "mbar" 2
+    ∷ writing_v2 109 1 "2\rU" "mbar" 2
+    ∷ writing_v1 109 1 "0" "" 2
+    ∷ writing_v1 109 1 "[" "" 2
+    ∷ writing_v1 109 1 "c" "00010\r" 2
+    ∷ writing_v1 109 1 "c" "0000100" 2
     -- ADDRESS
-    ∷ writingV2 109 0 "2DU" "mbar" 4
-    ∷ writingV1 109 1000 "M" "" 4
+    ∷ writing_v2 109 0 "2DU" "mbar" 4
+    ∷ writing_v1 109 1000 "M" "" 4
     ∷ []
 
 abbrev pub answered : Writing → Bool

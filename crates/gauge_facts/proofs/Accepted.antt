@@ -3,6 +3,6 @@ use Rattle.gauge_table.specs.Table.{number_of}
 use Rattle.gauge_facts.specs.Theorems.{AcceptedExactly}
 use Rattle.gauge_facts.proofs.Lemmas.Rows.{rows_fit}
 
-pub accepted-exactly : AcceptedExactly
+pub accepted_exactly : AcceptedExactly
 unfolding number_of
-accepted-exactly g room s = rows_fit _ _ _ _ _ _ _ _ _ _ _ _ _ _ _
+accepted_exactly g room s = rows_fit _ _ _ _ _ _ _ _ _ _ _ _ _ _ _

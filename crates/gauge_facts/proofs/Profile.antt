@@ -8,67 +8,67 @@ use native.Mathlib.Omega.{arith}
 use Rattle.buffer.specs.First.{pick}
 use Rattle.sources.specs.Source.{among}
 use Rattle.sources.specs.declared.Profile.TheVariants.{Standard, Vsh, Vsm}
-use Rattle.settings.specs.Limits.{ProfileLimits, limitsOf}
-use Rattle.readings.specs.Bench.{benchOf}
+use Rattle.settings.specs.Limits.{ProfileLimits, limits_of}
+use Rattle.readings.specs.Bench.{bench_of}
 use Rattle.readings.specs.There.{names}
 use Rattle.readings.specs.declared.Bench.{Bench}
 use Rattle.readings.specs.declared.Reading.{Reading}
 use Rattle.readings.specs.declared.Benched.{Benched}
 use Rattle.readings.specs.declared.Benched.TheVariants.{Accepted, Refused}
 use Rattle.gauge_rules.specs.State.{State}
-use Rattle.gauge_rules.specs.BenchIn.{lacked, benchIn}
+use Rattle.gauge_rules.specs.BenchIn.{lacked, bench_in}
 use Rattle.gauge_table.specs.After.{afterwards, next_of, benched}
 use Rattle.gauge_facts.specs.Theorems.{BenchExactly, ProfileStays, LimitsTell}
 
 -- a source that is not lacked is one of the profile's, and the reverse
-offered : (limits : ProfileLimits) (o : Option ℕ) → lacked limits o ≡ false → (code : ℕ) → o ≡ some code → among limits.sourceCodes code ≡ true
+offered : (limits : ProfileLimits) (o : Option ℕ) → lacked limits o ≡ false → (code : ℕ) → o ≡ some code → among limits.source_codes code ≡ true
 unfolding lacked
-offered limits o e code k = is_true (among limits.sourceCodes code) (subst (λ (o : Option ℕ). lacked limits o ≡ false) k e)
+offered limits o e code k = is_true (among limits.source_codes code) (subst (λ (o : Option ℕ). lacked limits o ≡ false) k e)
   where
     is_true : (t : Bool) → not t ≡ false → t ≡ true
     is_true true e = refl
     is_true false e = sym e
 
-not-lacked : (limits : ProfileLimits) (o : Option ℕ) → ((code : ℕ) → o ≡ some code → among limits.sourceCodes code ≡ true) → lacked limits o ≡ false
+not_lacked : (limits : ProfileLimits) (o : Option ℕ) → ((code : ℕ) → o ≡ some code → among limits.source_codes code ≡ true) → lacked limits o ≡ false
 unfolding lacked
-not-lacked limits none h = refl
-not-lacked limits (some code) h = rw (h code refl)
+not_lacked limits none h = refl
+not_lacked limits (some code) h = rw (h code refl)
 
 -- a setting of a source that the profile has, judged as before
-pub bench-exactly : BenchExactly
-unfolding benchIn pick
-bench-exactly limits b x = (
+pub bench_exactly : BenchExactly
+unfolding bench_in pick
+bench_exactly limits b x = (
   λ e.
       let w = to (lacked limits (names b)) e in
       (offered limits (names b) w.0, w.1),
-  λ w. rw (not-lacked limits (names b) w.0) w.1,
+  λ w. rw (not_lacked limits (names b) w.0) w.1,
 )
   where
-    to : (t : Bool) → pick t Refused (benchOf b) ≡ Accepted x → (t ≡ false) × (benchOf b ≡ Accepted x)
+    to : (t : Bool) → pick t Refused (bench_of b) ≡ Accepted x → (t ≡ false) × (bench_of b ≡ Accepted x)
     to true e = absurd (let z : ◌≡◌ {A = ℕ} 0 1 = cc in omega arith)
     to false e = (refl, e)
 
-bench-stays : (g : State) (x : Benched) → (benched g x).limits ≡ g.limits
+bench_stays : (g : State) (x : Benched) → (benched g x).limits ≡ g.limits
 unfolding benched
-bench-stays g (Accepted r) = refl
-bench-stays g Refused = refl
+bench_stays g (Accepted r) = refl
+bench_stays g Refused = refl
 
-pub profile-stays : ProfileStays
+pub profile_stays : ProfileStays
 unfolding next_of afterwards
-profile-stays = (λ g room s. refl, λ g b. bench-stays g (benchIn g.limits b))
+profile_stays = (λ g room s. refl, λ g b. bench_stays g (bench_in g.limits b))
 
 -- the upper ends of ST differ
 place : ProfileLimits → ℕ
-place limits = limits.transitionHigh.place
+place limits = limits.transition_high.place
 
-pub limits-tell : LimitsTell
-unfolding limitsOf place
-limits-tell Standard Standard e = refl
-limits-tell Vsh Vsh e = refl
-limits-tell Vsm Vsm e = refl
-limits-tell Standard Vsh e = absurd (omega (arith, ap place e))
-limits-tell Standard Vsm e = absurd (omega (arith, ap place e))
-limits-tell Vsh Standard e = absurd (omega (arith, ap place e))
-limits-tell Vsh Vsm e = absurd (omega (arith, ap place e))
-limits-tell Vsm Standard e = absurd (omega (arith, ap place e))
-limits-tell Vsm Vsh e = absurd (omega (arith, ap place e))
+pub limits_tell : LimitsTell
+unfolding limits_of place
+limits_tell Standard Standard e = refl
+limits_tell Vsh Vsh e = refl
+limits_tell Vsm Vsm e = refl
+limits_tell Standard Vsh e = absurd (omega (arith, ap place e))
+limits_tell Standard Vsm e = absurd (omega (arith, ap place e))
+limits_tell Vsh Standard e = absurd (omega (arith, ap place e))
+limits_tell Vsh Vsm e = absurd (omega (arith, ap place e))
+limits_tell Vsm Standard e = absurd (omega (arith, ap place e))
+limits_tell Vsm Vsh e = absurd (omega (arith, ap place e))

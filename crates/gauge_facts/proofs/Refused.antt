@@ -8,71 +8,71 @@ use borrow.Author.Tests.{ne_eqb}
 use lib.Dec.{eqb}
 use Rattle.buffer.specs.First.{pick}
 use Rattle.buffer.specs.Byte.{within}
-use Rattle.buffer.proofs.Laws.{within-true}
+use Rattle.buffer.proofs.Laws.{within_true}
 use Rattle.requests.specs.declared.AskV2.{AskV2}
 use Rattle.requests.specs.declared.AskV2.TheVariants.{Asks, Refused}
 use Rattle.gauge_rules.specs.State.{State}
-use Rattle.gauge_table.specs.Asked.{isV1, askedV2, breaksRule, asksFaulty, lockedWrite, measuresFaulty}
+use Rattle.gauge_table.specs.Asked.{is_v1, asked_v2, breaks_rule, asks_faulty, locked_write, measures_faulty}
 use Rattle.gauge_table.specs.Table.{number_of}
-use Rattle.gauge_table.specs.Reply.{replyOf}
+use Rattle.gauge_table.specs.Reply.{reply_of}
 use Rattle.gauge_table.specs.After.{afterwards, next_of}
 use Rattle.gauge_facts.specs.Theorems.{RefusedKeeps, ReadingsStay, SilentStays, V2KeepsUnlock, V1MovesUnlock, NumberMost, SameNumber}
 use Rattle.gauge_facts.proofs.Lemmas.Rows.{under}
 
 -- 1 to 5 are not 0
-silent-refuses : (k : ℕ) → within 1 5 k ≡ true → eqb k 0 ≡ false
-silent-refuses k e = let h = within-true 1 5 k e in ne_eqb k 0 (λ z. omega (arith, h.0))
+silent_refuses : (k : ℕ) → within 1 5 k ≡ true → eqb k 0 ≡ false
+silent_refuses k e = let h = within_true 1 5 k e in ne_eqb k 0 (λ z. omega (arith, h.0))
 
 -- "A refused request changes no setting."
-pub refused-keeps : RefusedKeeps
+pub refused_keeps : RefusedKeeps
 unfolding next_of afterwards
-refused-keeps g room s e = rw e
+refused_keeps g room s e = rw e
 
 -- "No request changes a reading or FS"
-pub readings-stay : ReadingsStay
+pub readings_stay : ReadingsStay
 unfolding next_of afterwards
-readings-stay g room s = refl
+readings_stay g room s = refl
 
 -- a silent request, 1 to 5, changes nothing at all, and has no reply
-pub silent-stays : SilentStays
+pub silent_stays : SilentStays
 unfolding next_of afterwards
-silent-stays g room s e = rw (e, silent-refuses (number_of g room s) e, and-false (isV1 s))
+silent_stays g room s e = rw (e, silent_refuses (number_of g room s) e, and-false (is_v1 s))
 
-pub silent-sends : (g : State) (room : ℕ) (s : List ℕ) → within 1 5 (number_of g room s) ≡ true → replyOf g s (number_of g room s) ≡ []
-unfolding replyOf pick
-silent-sends g room s e = rw e
+pub silent_sends : (g : State) (room : ℕ) (s : List ℕ) → within 1 5 (number_of g room s) ≡ true → reply_of g s (number_of g room s) ≡ []
+unfolding reply_of pick
+silent_sends g room s e = rw e
 
 -- "V2 requests do not touch it"
-pub v2-keeps-unlock : V2KeepsUnlock
+pub v2_keeps_unlock : V2KeepsUnlock
 unfolding next_of afterwards
-v2-keeps-unlock g room s l = rw l
+v2_keeps_unlock g room s l = rw l
 
 -- "The next V1 request past check 5 ends the unlock, unless it is again an accepted `c1`"
-pub v1-moves-unlock : V1MovesUnlock
+pub v1_moves_unlock : V1MovesUnlock
 unfolding next_of afterwards
-v1-moves-unlock g room s l e = rw (l, e)
+v1_moves_unlock g room s l e = rw (l, e)
 
 -- the numbers of the table are 0 to 13
-pub number-most : NumberMost
+pub number_most : NumberMost
 unfolding number_of
-number-most g room s =
+number_most g room s =
     under _ _ _ refl (under _ _ _ refl (under _ _ _ refl (under _ _ _ refl (under _ _ _ refl (
     under _ _ _ refl (under _ _ _ refl (under _ _ _ refl (under _ _ _ refl (under _ _ _ refl (
     under _ _ _ refl (under _ _ _ refl (under _ _ _ refl (under _ _ _ refl (under _ _ _ refl refl))))))))))))))
 
 -- CC's rule looks at CM alone, a fault at the readings alone
-same-rule : (g h : State) → g.settings.control ≡ h.settings.control → (a : AskV2) → breaksRule g a ≡ breaksRule h a
-unfolding breaksRule
-same-rule g h e (Asks r) = rw e
-same-rule g h e (Refused k) = refl
+same_rule : (g h : State) → g.settings.control ≡ h.settings.control → (a : AskV2) → breaks_rule g a ≡ breaks_rule h a
+unfolding breaks_rule
+same_rule g h e (Asks r) = rw e
+same_rule g h e (Refused k) = refl
 
-same-fault : (g h : State) → g.readings ≡ h.readings → (a : AskV2) → asksFaulty g a ≡ asksFaulty h a
-unfolding asksFaulty
-same-fault g h e (Asks r) = rw e
-same-fault g h e (Refused k) = refl
+same_fault : (g h : State) → g.readings ≡ h.readings → (a : AskV2) → asks_faulty g a ≡ asks_faulty h a
+unfolding asks_faulty
+same_fault g h e (Asks r) = rw e
+same_fault g h e (Refused k) = refl
 
 -- of what a gauge holds, its number depends on DA, CM, the readings and the unlock alone
 pub same_number : SameNumber
-unfolding number_of lockedWrite measuresFaulty
+unfolding number_of locked_write measures_faulty
 same_number g h limits address control readings unlocked room s =
-    rw (same-rule g h control (askedV2 g.limits s), same-fault g h readings (askedV2 g.limits s), address, readings, unlocked, limits)
+    rw (same_rule g h control (asked_v2 g.limits s), same_fault g h readings (asked_v2 g.limits s), address, readings, unlocked, limits)

@@ -10,34 +10,34 @@ use Rattle.buffer.specs.First.{pick}
 use Rattle.buffer.specs.Byte.{at, within}
 use Rattle.buffer.proofs.Rules.{each}
 use Rattle.frames.specs.Checksum.{closed}
-use Rattle.frames.specs.Frame.{isLetter, wrongLength, headV1}
+use Rattle.frames.specs.Frame.{is_letter, wrong_length, head_v1}
 use Rattle.frames.specs.declared.HeadV1.{HeadV1}
 use Rattle.frames.specs.declared.HeadV2.{HeadV2}
-use Rattle.frame_writer.specs.Written.{frameV1, frameV2}
+use Rattle.frame_writer.specs.Written.{frame_v1, frame_v2}
 use Rattle.frames_facts.proofs.Shape.{Framed}
 use Rattle.requests.specs.declared.RequestV2.{RequestV2}
 use Rattle.requests.specs.declared.RequestV1.{RequestV1}
 use Rattle.requests.specs.declared.AskV2.{AskV2}
 use Rattle.requests.specs.declared.AskV1.{AskV1}
 use Rattle.gauge_rules.specs.State.{State}
-use Rattle.gauge_rules_v1.specs.RulesV1.{textV1, repeats}
-use Rattle.gauge_table.specs.Asked.{isV1, askedV2, askedV1}
-use Rattle.gauge_table.specs.Table.{answerRoom, otherAddress, number_of}
+use Rattle.gauge_rules_v1.specs.RulesV1.{text_v1, repeats}
+use Rattle.gauge_table.specs.Asked.{is_v1, asked_v2, asked_v1}
+use Rattle.gauge_table.specs.Table.{answer_room, other_address, number_of}
 use Rattle.gauge_table.proofs.DecidedV2.{by}
-use Rattle.gauge_table.specs.Decided.{decidedV2, decidedV1}
-use Rattle.gauge_table.proofs.Numbers.{number-v1, number-v2}
-use Rattle.gauge_table.specs.Reply.{acceptedV2, acceptedV1, replyOf}
+use Rattle.gauge_table.specs.Decided.{decided_v2, decided_v1}
+use Rattle.gauge_table.proofs.Numbers.{number_v1, number_v2}
+use Rattle.gauge_table.specs.Reply.{accepted_v2, accepted_v1, reply_of}
 use Rattle.gauge_facts.specs.Theorems.{AsksV1, AsksV2, SilentExactly}
-use Rattle.gauge_facts.proofs.Refused.{silent-sends}
+use Rattle.gauge_facts.proofs.Refused.{silent_sends}
 use Rattle.gauge_facts.proofs.Lemmas.Rows.{past_row}
-use Rattle.gauge_facts.proofs.Lemmas.Refuses.{RefusesV2, refuses-v2, RefusesV1, refuses-v1}
+use Rattle.gauge_facts.proofs.Lemmas.Refuses.{RefusesV2, refuses_v2, RefusesV1, refuses_v1}
 
 -- what an accepted request has passed: 1 to 5, and for V2 6
 pub record Passed (g : State) (room : ℕ) (s : List ℕ) : Type 0 where
-  pub room_fits : ltb room answerRoom ≡ false
+  pub room_fits : ltb room answer_room ≡ false
   pub framed : Framed s
-  pub own : otherAddress g s ≡ false
-  pub counted : isV1 s ≡ false → wrongLength s ≡ false
+  pub own : other_address g s ≡ false
+  pub counted : is_v1 s ≡ false → wrong_length s ≡ false
 
 module _ (g : State) (room : ℕ) (s : List ℕ) (z : number_of g room s ≡ 0) where
   pub passed : Passed g room s
@@ -52,70 +52,70 @@ module _ (g : State) (room : ℕ) (s : List ℕ) (z : number_of g room s ≡ 0) 
       record { room_fits = a.0; framed = record { shape = b.0; sum = c.0; address = d.0 }; own = e.0; counted = λ l. rw l at f.0 }
 
   -- then it has the number of what the bytes ask
-  pub decided-as-v1 : isV1 s ≡ true → decidedV1 g (askedV1 s) ≡ 0
-  decided-as-v1 l = let p = passed in rw (number-v1 s g room p.room_fits p.framed p.own l) at z
+  pub decided_as_v1 : is_v1 s ≡ true → decided_v1 g (asked_v1 s) ≡ 0
+  decided_as_v1 l = let p = passed in rw (number_v1 s g room p.room_fits p.framed p.own l) at z
 
-  pub decided-as-v2 : isV1 s ≡ false → decidedV2 g (askedV2 g.limits s) ≡ 0
-  decided-as-v2 l = let p = passed in rw (number-v2 s g room p.room_fits p.framed p.own l (p.counted l)) at z
+  pub decided_as_v2 : is_v1 s ≡ false → decided_v2 g (asked_v2 g.limits s) ≡ 0
+  decided_as_v2 l = let p = passed in rw (number_v2 s g room p.room_fits p.framed p.own l (p.counted l)) at z
 
 -- number 0 means that the bytes ask a typed request
-pub asks-v1 : AsksV1
-unfolding decidedV1
-asks-v1 g room s z l = go (askedV1 s) (refuses-v1 (at s 3) _) (decided-as-v1 g room s z l)
+pub asks_v1_lem : AsksV1
+unfolding decided_v1
+asks_v1_lem g room s z l = go (asked_v1 s) (refuses_v1 (at s 3) _) (decided_as_v1 g room s z l)
   where
-    go : (a : AskV1) → RefusesV1 a → decidedV1 g a ≡ 0 → (r : RequestV1) × (a ≡ AskV1.Asks r)
+    go : (a : AskV1) → RefusesV1 a → decided_v1 g a ≡ 0 → (r : RequestV1) × (a ≡ AskV1.Asks r)
     go (AskV1.Asks r) n e = (r, refl)
     go (AskV1.Refused k) n e = absurd (n e)
 
-pub asks-v2 : AsksV2
-unfolding decidedV2
-asks-v2 g room s z l = go (askedV2 g.limits s) (refuses-v2 _ _ _) (decided-as-v2 g room s z l)
+pub asks_v2 : AsksV2
+unfolding decided_v2
+asks_v2 g room s z l = go (asked_v2 g.limits s) (refuses_v2 _ _ _) (decided_as_v2 g room s z l)
   where
-    go : (a : AskV2) → RefusesV2 a → decidedV2 g a ≡ 0 → (r : RequestV2) × (a ≡ AskV2.Asks r)
+    go : (a : AskV2) → RefusesV2 a → decided_v2 g a ≡ 0 → (r : RequestV2) × (a ≡ AskV2.Asks r)
     go (AskV2.Asks r) n e = (r, refl)
     go (AskV2.Refused k) n e = absurd (n e)
 
 -- ---- replies
 
-frame-v2-some : (h : HeadV2) (d : List ℕ) → frameV2 h d ≡ [] → ⊥
-unfolding frameV2 closed
-frame-v2-some h d e = let z : ◌≡◌ {A = ℕ} 0 1 = cc in omega arith
+frame_v2_some : (h : HeadV2) (d : List ℕ) → frame_v2 h d ≡ [] → ⊥
+unfolding frame_v2 closed
+frame_v2_some h d e = let z : ◌≡◌ {A = ℕ} 0 1 = cc in omega arith
 
-frame-v1-some : (h : HeadV1) (d : List ℕ) → frameV1 h d ≡ [] → ⊥
-unfolding frameV1 closed
-frame-v1-some h d e = let z : ◌≡◌ {A = ℕ} 0 1 = cc in omega arith
+frame_v1_some : (h : HeadV1) (d : List ℕ) → frame_v1 h d ≡ [] → ⊥
+unfolding frame_v1 closed
+frame_v1_some h d e = let z : ◌≡◌ {A = ℕ} 0 1 = cc in omega arith
 
 -- bytes with a letter at byte 3 are some bytes
-letter-some : (s : List ℕ) → isV1 s ≡ true → s ≡ [] → ⊥
-unfolding isLetter within
-letter-some s l e = let z : ◌≡◌ {A = ℕ} 0 1 = cc (rw e at l) in omega arith
+letter_some : (s : List ℕ) → is_v1 s ≡ true → s ≡ [] → ⊥
+unfolding is_letter within
+letter_some s l e = let z : ◌≡◌ {A = ℕ} 0 1 = cc (rw e at l) in omega arith
 
 module _ (g : State) (s : List ℕ) where
-  accepted-v1-some : isV1 s ≡ true → (r : RequestV1) → acceptedV1 g s (headV1 s) (AskV1.Asks r) ≡ [] → ⊥
-  unfolding acceptedV1
-  accepted-v1-some l r =
-      each (λ (t : List ℕ). t ≡ [] → ⊥) (repeats r) s (frameV1 (headV1 s) (textV1 g r)) (λ _. letter-some s l) (λ _. frame-v1-some _ _)
+  accepted_v1_some : is_v1 s ≡ true → (r : RequestV1) → accepted_v1 g s (head_v1 s) (AskV1.Asks r) ≡ [] → ⊥
+  unfolding accepted_v1
+  accepted_v1_some l r =
+      each (λ (t : List ℕ). t ≡ [] → ⊥) (repeats r) s (frame_v1 (head_v1 s) (text_v1 g r)) (λ _. letter_some s l) (λ _. frame_v1_some _ _)
 
-  accepted-v2-some : (h : HeadV2) (r : RequestV2) → acceptedV2 g h (AskV2.Asks r) ≡ [] → ⊥
-  unfolding acceptedV2
-  accepted-v2-some h r = frame-v2-some _ _
+  accepted_v2_some : (h : HeadV2) (r : RequestV2) → accepted_v2 g h (AskV2.Asks r) ≡ [] → ⊥
+  unfolding accepted_v2
+  accepted_v2_some h r = frame_v2_some _ _
 
   -- a number other than 1 to 5, and what is asked where it is 0
-  reply-some : (k : ℕ) → (eqb k 0 ≡ true → isV1 s ≡ true → (r : RequestV1) × (askedV1 s ≡ AskV1.Asks r)) → (eqb k 0 ≡ true → isV1 s ≡ false → (r : RequestV2) × (askedV2 g.limits s ≡ AskV2.Asks r))
-      → within 1 5 k ≡ false → replyOf g s k ≡ [] → ⊥
-  unfolding replyOf pick
-  reply-some k v1 v2 e h =
-      by (isV1 s)
+  reply_some : (k : ℕ) → (eqb k 0 ≡ true → is_v1 s ≡ true → (r : RequestV1) × (asked_v1 s ≡ AskV1.Asks r)) → (eqb k 0 ≡ true → is_v1 s ≡ false → (r : RequestV2) × (asked_v2 g.limits s ≡ AskV2.Asks r))
+      → within 1 5 k ≡ false → reply_of g s k ≡ [] → ⊥
+  unfolding reply_of pick
+  reply_some k v1 v2 e h =
+      by (is_v1 s)
       (λ l. by (eqb k 0)
-      (λ z. let w = v1 z l in accepted-v1-some l w.0 (rw (e, l, z, w.1) at h))
-      (λ z. frame-v1-some _ _ (rw (e, l, z) at h)))
+      (λ z. let w = v1 z l in accepted_v1_some l w.0 (rw (e, l, z, w.1) at h))
+      (λ z. frame_v1_some _ _ (rw (e, l, z) at h)))
       (λ l. by (eqb k 0)
-      (λ z. let w = v2 z l in accepted-v2-some _ w.0 (rw (e, l, z, w.1) at h))
-      (λ z. frame-v2-some _ _ (rw (e, l, z) at h)))
+      (λ z. let w = v2 z l in accepted_v2_some _ w.0 (rw (e, l, z, w.1) at h))
+      (λ z. frame_v2_some _ _ (rw (e, l, z) at h)))
 
 -- the reply is empty exactly for 1 to 5
-pub silent-exactly : SilentExactly
-silent-exactly g room s = (λ h. by (within 1 5 (number_of g room s)) (λ e. e) (λ e. absurd (loud e h)), silent-sends g room s)
+pub silent_exactly : SilentExactly
+silent_exactly g room s = (λ h. by (within 1 5 (number_of g room s)) (λ e. e) (λ e. absurd (loud e h)), silent_sends g room s)
   where
-    loud : within 1 5 (number_of g room s) ≡ false → replyOf g s (number_of g room s) ≡ [] → ⊥
-    loud = reply-some g s (number_of g room s) (λ z. asks-v1 g room s (eqb-true _ 0 z)) (λ z. asks-v2 g room s (eqb-true _ 0 z))
+    loud : within 1 5 (number_of g room s) ≡ false → reply_of g s (number_of g room s) ≡ [] → ⊥
+    loud = reply_some g s (number_of g room s) (λ z. asks_v1_lem g room s (eqb-true _ 0 z)) (λ z. asks_v2 g room s (eqb-true _ 0 z))

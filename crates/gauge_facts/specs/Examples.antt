@@ -6,16 +6,16 @@ use Rattle.buffer.specs.Answer.{Answer, silent}
 use Rattle.buffer.specs.Quoted.{bytes}
 use Rattle.sources.specs.declared.Profile.{Profile}
 use Rattle.sources.specs.declared.Profile.TheVariants.{Standard, Vsh, Vsm}
-use Rattle.settings.specs.Limits.{limitsOf}
+use Rattle.settings.specs.Limits.{limits_of}
 use Rattle.settings.specs.declared.Key.TheVariants.{DA, DU, C1, CM, CC, FC, ST, SM}
-use Rattle.readings.specs.Bench.{benchNumber}
+use Rattle.readings.specs.Bench.{bench_number}
 use Rattle.readings.specs.declared.Bench.{Bench}
 use Rattle.readings.specs.declared.Bench.TheVariants.{Reads, UnderRange, OverRange, Faulty, Status}
 use Rattle.readings_facts.specs.Examples.{decimals, below, zeros}
 use Rattle.requests.specs.declared.Command.TheVariants.{FS, Of}
-use Rattle.line.specs.Line.{lineAnswer}
-use Rattle.gauge_rules.specs.BenchIn.{benchIn}
-use Rattle.gauge_rules.specs.RulesV2.{sentText}
+use Rattle.line.specs.Line.{line_answer}
+use Rattle.gauge_rules.specs.BenchIn.{bench_in}
+use Rattle.gauge_rules.specs.RulesV2.{sent_text}
 use Rattle.gauge_rules.specs.State.{State, fresh}
 use Rattle.gauge_table.specs.After.{answer_of as tableAnswer, next_of, benched}
 
@@ -33,12 +33,12 @@ ask text = lending 64 text
 
 abbrev pub answered : State → Call → Answer
 answered g (Request room s) = tableAnswer g room s
-answered g (SetBench b) = silent (benchNumber (benchIn g.limits b))
-answered g (Line room) = lineAnswer g.limits room g.settings g.readings
+answered g (SetBench b) = silent (bench_number (bench_in g.limits b))
+answered g (Line room) = line_answer g.limits room g.settings g.readings
 
 abbrev pub after : State → Call → State
 after g (Request room s) = next_of g room s
-after g (SetBench b) = benched g (benchIn g.limits b)
+after g (SetBench b) = benched g (bench_in g.limits b)
 after g (Line room) = g
 
 -- ---- a call to a gauge that was fresh before the calls given
@@ -66,7 +66,7 @@ following g [] = g
 following g (c ∷ cs) = following (after g c) cs
 
 abbrev pub given : Case → Answer
-given c = answered (following (fresh (limitsOf Standard)) c.before) c.call
+given c = answered (following (fresh (limits_of Standard)) c.before) c.call
 
 abbrev pub paper : Case → Answer
 paper c = record { number = c.number; reply = c.reply }
@@ -202,8 +202,8 @@ settings =
     ∷ []
 
 -- V1, and readings
-abbrev pub overV1 : List Case
-overV1 =
+abbrev pub over_v1 : List Case
+over_v1 =
     -- `c` while locked: LOGIC before RANGE, SYNTAX before LOGIC; unlocked: RANGE, and then locked again
     expect "001c000900]\r" 12 "001c_LOGICA\r"
     ∷ expect "001c00010x]\r" 10 "001c_LOGICA\r"
@@ -271,11 +271,11 @@ pub record Step : Type 0 where
   pub call : Call
   pub answer : Answer
 
-abbrev pub asksLent : ℕ → String → ℕ → String → Step
-asksLent room text number reply = record { call = lending room text; answer = record { number = number; reply = bytes reply } }
+abbrev pub asks_lent : ℕ → String → ℕ → String → Step
+asks_lent room text number reply = record { call = lending room text; answer = record { number = number; reply = bytes reply } }
 
 abbrev pub asks : String → ℕ → String → Step
-asks text number reply = asksLent 64 text number reply
+asks text number reply = asks_lent 64 text number reply
 
 abbrev pub sets : Bench → ℕ → Step
 sets setting number = record { call = SetBench setting; answer = silent number }
@@ -289,7 +289,7 @@ pub record Holding : Type 0 where
   pub unlocked : Bool
 
 abbrev pub holding : State → Holding
-holding g = record { texts = map (sentText g) (Of DA ∷ Of DU ∷ Of C1 ∷ Of CM ∷ Of CC ∷ Of FC ∷ Of ST ∷ Of SM ∷ FS ∷ []); unlocked = g.unlocked }
+holding g = record { texts = map (sent_text g) (Of DA ∷ Of DU ∷ Of C1 ∷ Of CM ∷ Of CC ∷ Of FC ∷ Of ST ∷ Of SM ∷ FS ∷ []); unlocked = g.unlocked }
 
 pub record Course : Type 0 where
   pub profile : Profile
@@ -297,8 +297,8 @@ pub record Course : Type 0 where
   pub end : Holding
 
 -- what a gauge that ends locked holds at the end: DA, DU, C1, CM, CC, FC, ST, SM and FS
-abbrev pub courseOn : Profile → List Step → List String → Course
-courseOn p steps texts = record { profile = p; steps = steps; end = record { texts = map bytes texts; unlocked = false } }
+abbrev pub course_on : Profile → List Step → List String → Course
+course_on p steps texts = record { profile = p; steps = steps; end = record { texts = map bytes texts; unlocked = false } }
 
 abbrev pub course : List Step → List String → Course
 course steps texts = record { profile = Standard; steps = steps; end = record { texts = map bytes texts; unlocked = false } }
@@ -313,7 +313,7 @@ ended g [] = g
 ended g (c ∷ cs) = ended (after g c.call) cs
 
 abbrev pub run : Course → Course
-run c = record { profile = c.profile; steps = played (fresh (limitsOf c.profile)) c.steps; end = holding (ended (fresh (limitsOf c.profile)) c.steps) }
+run c = record { profile = c.profile; steps = played (fresh (limits_of c.profile)) c.steps; end = holding (ended (fresh (limits_of c.profile)) c.steps) }
 
 -- the unlock across addresses and protocols
 abbrev pub unlocking : Course
@@ -332,8 +332,8 @@ unlocking =
     ("005" ∷ "mbar" ∷ "1.00" ∷ "1" ∷ "1" ∷ "0" ∷ "D1e0" ∷ "0" ∷ "0" ∷ [])
 
 -- the last accepted write wins, refused ones leave no trace
-abbrev pub lastWins : Course
-lastWins =
+abbrev pub last_wins : Course
+last_wins =
     course
     (asks "0012C1042.22_\r" 0 "0013C100X\r"
     ∷ asks "0012C1049.99t\r" 11 "0017C106_RANGEn\r"
@@ -383,7 +383,7 @@ transition =
     ∷ asks "0012ST08D20.0001g\r" 11 "0017ST06_RANGEa\r"
     ∷ asks "0012ST04D2e1Z\r" 0 "0013ST00K\r"
     ∷ asks "0010ST00H\r" 0 "0011ST04D2e1Y\r"
-    ∷ asksLent 63 "0014ST00L\r" 1 ""
+    ∷ asks_lent 63 "0014ST00L\r" 1 ""
     ∷ asks "0010ST00H\r" 0 "0011ST04D2e1Y\r"
     ∷ asks "0014ST00L\r" 0 "0015ST00M\r"
     ∷ asks "0010ST00H\r" 0 "0011ST04D1e0W\r"
@@ -426,8 +426,8 @@ faulty =
     ("001" ∷ "mbar" ∷ "1.00" ∷ "1" ∷ "1" ∷ "0" ∷ "D1e0" ∷ "4D1" ∷ "0" ∷ [])
 
 -- refused bench settings change nothing
-abbrev pub refusedBench : Course
-refusedBench =
+abbrev pub refused_bench : Course
+refused_bench =
     course
     (sets (Reads 0 (decimals 0 0)) 15
     ∷ sets (UnderRange 8) 15
@@ -439,8 +439,8 @@ refusedBench =
     ("001" ∷ "mbar" ∷ "1.00" ∷ "1" ∷ "1" ∷ "0" ∷ "D1e0" ∷ "0" ∷ "0" ∷ [])
 
 -- document 02, "Hot cathode gauges": factory value, restore, streams, bench and longest line of VSH and of VSM
-abbrev pub hotSteps : List Step
-hotSteps =
+abbrev pub hot_steps : List Step
+hot_steps =
     asks "0010ST00H\r" 0 "0011ST05D1e-3H\r"
     ∷ asks "0012ST05D2e-3J\r" 0 "0013ST00K\r"
     ∷ asks "0010ST00H\r" 0 "0011ST05D2e-3I\r"
@@ -469,18 +469,18 @@ hotSteps =
     ∷ streams 30 0 "1.23456e-9;1.23456e-9;-40.00q\r"
     ∷ []
 
-abbrev pub hotTexts : List String
-hotTexts = "001" ∷ "mbar" ∷ "1.00" ∷ "1" ∷ "1" ∷ "0" ∷ "D1e-3" ∷ "4D1DT2" ∷ "3" ∷ []
+abbrev pub hot_texts : List String
+hot_texts = "001" ∷ "mbar" ∷ "1.00" ∷ "1" ∷ "1" ∷ "0" ∷ "D1e-3" ∷ "4D1DT2" ∷ "3" ∷ []
 
 -- their upper ends differ
-abbrev pub upperEnds : List Course
-upperEnds =
-    courseOn Vsh (asks "0012ST05D1e-2H\r" 0 "0013ST00K\r" ∷ []) ("001" ∷ "mbar" ∷ "1.00" ∷ "1" ∷ "1" ∷ "0" ∷ "D1e-2" ∷ "0" ∷ "0" ∷ [])
-    ∷ courseOn Vsm (asks "0012ST05D1e-2H\r" 11 "0017ST06_RANGEa\r" ∷ []) ("001" ∷ "mbar" ∷ "1.00" ∷ "1" ∷ "1" ∷ "0" ∷ "D1e-3" ∷ "0" ∷ "0" ∷ [])
+abbrev pub upper_ends : List Course
+upper_ends =
+    course_on Vsh (asks "0012ST05D1e-2H\r" 0 "0013ST00K\r" ∷ []) ("001" ∷ "mbar" ∷ "1.00" ∷ "1" ∷ "1" ∷ "0" ∷ "D1e-2" ∷ "0" ∷ "0" ∷ [])
+    ∷ course_on Vsm (asks "0012ST05D1e-2H\r" 11 "0017ST06_RANGEa\r" ∷ []) ("001" ∷ "mbar" ∷ "1.00" ∷ "1" ∷ "1" ∷ "0" ∷ "D1e-3" ∷ "0" ∷ "0" ∷ [])
     ∷ []
 
 abbrev pub cases : List Case
-cases = order ++ settings ++ overV1 ++ lines
+cases = order ++ settings ++ over_v1 ++ lines
 
 abbrev pub courses : List Course
-courses = unlocking ∷ lastWins ∷ cathode ∷ transition ∷ longest ∷ faulty ∷ refusedBench ∷ courseOn Vsh hotSteps hotTexts ∷ courseOn Vsm hotSteps hotTexts ∷ upperEnds
+courses = unlocking ∷ last_wins ∷ cathode ∷ transition ∷ longest ∷ faulty ∷ refused_bench ∷ course_on Vsh hot_steps hot_texts ∷ course_on Vsm hot_steps hot_texts ∷ upper_ends

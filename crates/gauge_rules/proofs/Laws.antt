@@ -2,10 +2,10 @@
 use mathlib.Core.Path.{refl}
 use Rattle.buffer.specs.First.{pick}
 use Rattle.buffer.specs.Byte.{within}
-use Rattle.gauge_rules.specs.RulesV2.{filamentOf}
+use Rattle.gauge_rules.specs.RulesV2.{filament_of}
 use Rattle.gauge_rules.specs.Theorems.{FilamentTable}
 
 -- FN for each FC and FS that there is
-pub filament-table : FilamentTable
-unfolding filamentOf within pick
-filament-table = refl
+pub filament_table : FilamentTable
+unfolding filament_of within pick
+filament_table = refl

@@ -1,11 +1,11 @@
--- To compute with these definitions: `unfolding gauge-rules-open` opens every one of this crate, and those that they stand on.
-use Rattle.frame_writer.proofs.Open.{frame-writer-open}
+-- To compute with these definitions: `unfolding gauge_rules_open` opens every one of this crate, and those that they stand on.
+use Rattle.frame_writer.proofs.Open.{frame_writer_open}
 use Rattle.readings.specs.There.{names}
-use Rattle.readings.proofs.Open.{readings-open}
-use Rattle.requests.proofs.Open.{requests-open}
-use Rattle.gauge_rules.specs.BenchIn.{lacked, benchIn}
-use Rattle.gauge_rules.specs.RulesV2.{filamentOf, changesCathode, readsFaulty, grantV2, sentText, textV2, answerCode, enterV2}
+use Rattle.readings.proofs.Open.{readings_open}
+use Rattle.requests.proofs.Open.{requests_open}
+use Rattle.gauge_rules.specs.BenchIn.{lacked, bench_in}
+use Rattle.gauge_rules.specs.RulesV2.{filament_of, changes_cathode, reads_faulty, grant_v2, sent_text, text_v2, answer_code, enter_v2}
 
-unfoldable pub gauge-rules-open : Unit {0}
-unfolding frame-writer-open readings-open requests-open filamentOf changesCathode readsFaulty grantV2 sentText textV2 answerCode enterV2 names lacked benchIn
-gauge-rules-open = tt
+unfoldable pub gauge_rules_open : Unit {0}
+unfolding frame_writer_open readings_open requests_open filament_of changes_cathode reads_faulty grant_v2 sent_text text_v2 answer_code enter_v2 names lacked bench_in
+gauge_rules_open = tt

@@ -4,7 +4,7 @@ use Rattle.std.proofs.Math.Option.{Option, none, some}
 use Rattle.buffer.specs.First.{pick}
 use Rattle.sources.specs.Source.{among}
 use Rattle.settings.specs.Limits.{ProfileLimits}
-use Rattle.readings.specs.Bench.{benchOf}
+use Rattle.readings.specs.Bench.{bench_of}
 use Rattle.readings.specs.There.{names}
 use Rattle.readings.specs.declared.Bench.{Bench}
 use Rattle.readings.specs.declared.Benched.{Benched}
@@ -13,8 +13,8 @@ use Rattle.readings.specs.declared.Benched.TheVariants.{Refused}
 -- a source that the profile lacks; FS is no source
 unfoldable pub lacked : ProfileLimits → Option ℕ → Bool
 lacked limits none = false
-lacked limits (some code) = not (among limits.sourceCodes code)
+lacked limits (some code) = not (among limits.source_codes code)
 
 -- "readings of sources a profile lacks can't be set by its bench (15)", whatever the value
-unfoldable pub benchIn : ProfileLimits → Bench → Benched
-benchIn limits b = pick (lacked limits (names b)) Refused (benchOf b)
+unfoldable pub bench_in : ProfileLimits → Bench → Benched
+bench_in limits b = pick (lacked limits (names b)) Refused (bench_of b)

@@ -1,6 +1,6 @@
 -- What a text gauge holds.
 use Rattle.std.specs.Prelude.{Bool, false}
-use Rattle.settings.specs.Limits.{ProfileLimits, limitsOf}
+use Rattle.settings.specs.Limits.{ProfileLimits, limits_of}
 use Rattle.settings.specs.Settings.{Held, held, factory}
 use Rattle.readings.specs.Reading.{start}
 use Rattle.readings.specs.declared.Readings.{Readings}
@@ -15,7 +15,7 @@ pub record State : Type 0 where
   pub unlocked : Bool
 
 abbrev pub state_of : Gauge → State
-state_of g = record { limits = limitsOf g.profile; settings = held g.settings; readings = g.readings; unlocked = g.unlocked }
+state_of g = record { limits = limits_of g.profile; settings = held g.settings; readings = g.readings; unlocked = g.unlocked }
 
 -- the state with these settings, with these readings, and unlocked or locked: nothing else changes
 abbrev pub settled : State → Held → State
@@ -24,8 +24,8 @@ settled g h = record { limits = g.limits; settings = h; readings = g.readings; u
 abbrev pub measured : State → Readings → State
 measured g r = record { limits = g.limits; settings = g.settings; readings = r; unlocked = g.unlocked }
 
-abbrev pub unlockedAs : State → Bool → State
-unlockedAs g u = record { limits = g.limits; settings = g.settings; readings = g.readings; unlocked = u }
+abbrev pub unlocked_as : State → Bool → State
+unlocked_as g u = record { limits = g.limits; settings = g.settings; readings = g.readings; unlocked = u }
 
 -- "It starts with factory values and the bench's start, a text gauge's also locked."
 abbrev pub fresh : ProfileLimits → State

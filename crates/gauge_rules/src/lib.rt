@@ -3,14 +3,14 @@
 ghost use Rattle.std.specs.Prelude.{◌≡◌, ◌&&◌, List, [], ℕ, eqb};
 ghost use Rattle.buffer.specs.Text.{text_of};
 ghost use Rattle.sources.specs.Source.{list_of, Counted};
-ghost use Rattle.settings.specs.Limits.{limitsOf};
-ghost use Rattle.settings.specs.Settings.{Held, held, changedBy};
+ghost use Rattle.settings.specs.Limits.{limits_of};
+ghost use Rattle.settings.specs.Settings.{Held, held, changed_by};
 ghost use Rattle.requests.specs.declared.Command.{Command};
 ghost use Rattle.requests.specs.declared.RequestV2.{RequestV2};
-ghost use Rattle.gauge_rules.specs.State.{state_of, settled, measured, unlockedAs, fresh};
+ghost use Rattle.gauge_rules.specs.State.{state_of, settled, measured, unlocked_as, fresh};
 ghost use Rattle.readings.specs.There.{names};
-ghost use Rattle.gauge_rules.specs.BenchIn.{lacked, benchIn};
-ghost use Rattle.gauge_rules.specs.RulesV2.{filamentOf, changesCathode, readsFaulty, grantV2, sentText, textV2, answerCode, enterV2};
+ghost use Rattle.gauge_rules.specs.BenchIn.{lacked, bench_in};
+ghost use Rattle.gauge_rules.specs.RulesV2.{filament_of, changes_cathode, reads_faulty, grant_v2, sent_text, text_v2, answer_code, enter_v2};
 
 // A gauge: its profile, which no call changes, its settings, its readings with FS, and whether it is unlocked.
 #[derive(Drop)]
@@ -24,7 +24,7 @@ pub struct Gauge {
 impl Gauge {
     // A gauge of this profile, at factory settings and the bench's start, locked.
     pub fn at_start(profile: sources::Profile) -> Gauge
-        ensures result_value { (state_of result ≡ fresh (limitsOf profile)) × (result.profile ≡ profile) }
+        ensures result_value { (state_of result ≡ fresh (limits_of profile)) × (result.profile ≡ profile) }
         ensures counted { Counted result.settings.sources }
     {
         Gauge {
@@ -68,7 +68,7 @@ impl Gauge {
 
     // The gauge unlocked or locked, and nothing else changed.
     pub fn with_unlock(self, unlocked: bool) -> Gauge
-        ensures result_value { state_of result ≡ unlockedAs (state_of self) unlocked }
+        ensures result_value { state_of result ≡ unlocked_as (state_of self) unlocked }
         ensures settings_value { (result.settings ≡ self.settings) × (result.profile ≡ self.profile) }
     {
         let profile = self.profile;
@@ -87,7 +87,7 @@ impl Gauge {
 
 // FN, from FC and FS.
 pub fn filament_number(filament: u8, status: u8) -> u8
-    ensures { result ≡ filamentOf filament status }
+    ensures { result ≡ filament_of filament status }
 {
     if buffer::is_within(filament, 1, 2) {
         return filament;
@@ -102,7 +102,7 @@ pub fn filament_number(filament: u8, status: u8) -> u8
 }
 
 fn is_cathode(key: settings::Key) -> bool
-    ensures { result ≡ changesCathode (RequestV2.Restore (Command.Of key)) }
+    ensures { result ≡ changes_cathode (RequestV2.Restore (Command.Of key)) }
 {
     match key {
         settings::Key::DA => false,
@@ -117,7 +117,7 @@ fn is_cathode(key: settings::Key) -> bool
 }
 
 fn restores_cathode(command: requests::Command) -> bool
-    ensures { result ≡ changesCathode (RequestV2.Restore command) }
+    ensures { result ≡ changes_cathode (RequestV2.Restore command) }
 {
     match command {
         requests::Command::MV => false,
@@ -129,7 +129,7 @@ fn restores_cathode(command: requests::Command) -> bool
 }
 
 fn sets_cathode(setting: settings::Setting) -> bool
-    ensures { result ≡ changesCathode (RequestV2.Set setting) }
+    ensures { result ≡ changes_cathode (RequestV2.Set setting) }
 {
     match setting {
         settings::Setting::Cathode(_) => true,
@@ -145,7 +145,7 @@ fn sets_cathode(setting: settings::Setting) -> bool
 
 // Whether a request writes or restores CC.
 fn changes_cathode(request: requests::RequestV2) -> bool
-    ensures { result ≡ changesCathode request }
+    ensures { result ≡ changes_cathode request }
 {
     match request {
         requests::RequestV2::Read(_) => false,
@@ -156,7 +156,7 @@ fn changes_cathode(request: requests::RequestV2) -> bool
 
 // Whether a request breaks the rule between CC and CM.
 fn breaks_rule(control: u8, request: requests::RequestV2) -> bool
-    ensures { result ≡ (changesCathode request && eqb control 1) }
+    ensures { result ≡ (changes_cathode request && eqb control 1) }
 {
     if changes_cathode(request) {
         return control == 1;
@@ -166,7 +166,7 @@ fn breaks_rule(control: u8, request: requests::RequestV2) -> bool
 
 // Whether the sensor of a command is faulty.
 fn has_fault(r: readings::Readings, command: requests::Command) -> bool
-    ensures { result ≡ readsFaulty r (RequestV2.Read command) }
+    ensures { result ≡ reads_faulty r (RequestV2.Read command) }
 {
     let p0 = r.p0;
     let t2 = r.t2;
@@ -181,7 +181,7 @@ fn has_fault(r: readings::Readings, command: requests::Command) -> bool
 
 // Whether a request reads a sensor that is faulty.
 fn reads_faulty(r: readings::Readings, request: requests::RequestV2) -> bool
-    ensures { result ≡ readsFaulty r request }
+    ensures { result ≡ reads_faulty r request }
 {
     match request {
         requests::RequestV2::Read(command) => has_fault(r, command),
@@ -192,7 +192,7 @@ fn reads_faulty(r: readings::Readings, request: requests::RequestV2) -> bool
 
 // The number of a V2 request: 12 LOGIC, 13 FAULT or 0.
 pub fn number_v2(g: Gauge, request: requests::RequestV2) -> u8
-    ensures { result ≡ grantV2 (state_of g) request }
+    ensures { result ≡ grant_v2 (state_of g) request }
 {
     let s = g.settings;
     let r = g.readings;
@@ -207,7 +207,7 @@ pub fn number_v2(g: Gauge, request: requests::RequestV2) -> u8
 
 // The text that a read of a command sends.
 fn sent_text(g: Gauge, command: requests::Command) -> buffer::Text
-    ensures { text_of result ≡ sentText (state_of g) command }
+    ensures { text_of result ≡ sent_text (state_of g) command }
 {
     let s = g.settings;
     let r = g.readings;
@@ -224,7 +224,7 @@ fn sent_text(g: Gauge, command: requests::Command) -> buffer::Text
 
 // The data of the reply to an accepted V2 request.
 pub fn text_v2(g: Gauge, request: requests::RequestV2) -> buffer::Text
-    ensures { text_of result ≡ textV2 (state_of g) request }
+    ensures { text_of result ≡ text_v2 (state_of g) request }
 {
     match request {
         requests::RequestV2::Read(command) => sent_text(g, command),
@@ -235,7 +235,7 @@ pub fn text_v2(g: Gauge, request: requests::RequestV2) -> buffer::Text
 
 // The access code of the reply to an accepted V2 request.
 pub fn answer_code(request: requests::RequestV2) -> u8
-    ensures { result ≡ answerCode request }
+    ensures { result ≡ answer_code request }
 {
     match request {
         requests::RequestV2::Read(_) => b'1',
@@ -246,7 +246,7 @@ pub fn answer_code(request: requests::RequestV2) -> u8
 
 // What a restore of a command puts: the profile's factory value, where it is a setting.
 fn put_restored(profile: sources::Profile, command: requests::Command) -> settings::Put
-    ensures { (h : Held) (list : List ℕ) → changedBy h result [] ≡ enterV2 (limitsOf profile) h (RequestV2.Restore command) list }
+    ensures { (h : Held) (list : List ℕ) → changed_by h result [] ≡ enter_v2 (limits_of profile) h (RequestV2.Restore command) list }
 {
     match command {
         requests::Command::MV => settings::Put::Nothing,
@@ -265,7 +265,7 @@ pub fn change_v2(
     request: requests::RequestV2,
     list: sources::Sources,
 ) -> settings::Change
-    ensures sources_value { (h : Held) → changedBy h result.put (list_of result.sources) ≡ enterV2 (limitsOf profile) h request (list_of list) }
+    ensures sources_value { (h : Held) → changed_by h result.put (list_of result.sources) ≡ enter_v2 (limits_of profile) h request (list_of list) }
     ensures counted { Counted list → Counted result.sources }
 {
     match request {
@@ -291,7 +291,7 @@ pub fn enter_v2(
     request: requests::RequestV2,
     list: sources::Sources,
 ) -> settings::Settings
-    ensures result_value { held result ≡ enterV2 (limitsOf profile) (held s) request (list_of list) }
+    ensures result_value { held result ≡ enter_v2 (limits_of profile) (held s) request (list_of list) }
     ensures counted { Counted s.sources → Counted list → Counted result.sources }
 {
     s.changed(change_v2(profile, request, list))
@@ -301,7 +301,7 @@ pub fn enter_v2(
 
 // Whether a bench setting names a source that the profile lacks. FS is no source.
 fn names_lacked(profile: sources::Profile, b: readings::Bench) -> bool
-    ensures { result ≡ lacked (limitsOf profile) (names b) }
+    ensures { result ≡ lacked (limits_of profile) (names b) }
 {
     match b {
         readings::Bench::Reads(code, _) => !sources::offers(profile, code),
@@ -314,7 +314,7 @@ fn names_lacked(profile: sources::Profile, b: readings::Bench) -> bool
 
 // A bench setting of a gauge of this profile, as a reading, or refused.
 pub fn judge_bench(profile: sources::Profile, b: readings::Bench) -> readings::Benched
-    ensures { result ≡ benchIn (limitsOf profile) b }
+    ensures { result ≡ bench_in (limits_of profile) b }
 {
     if names_lacked(profile, b) {
         return readings::Benched::Refused;

@@ -3,14 +3,14 @@ ghost use Rattle.std.specs.Prelude.{◌≡◌, List, [], ◌∷◌, ℕ, eqb};
 ghost use Rattle.buffer.specs.First.{◌⇒◌, first};
 ghost use Rattle.buffer.specs.Text.{text_of};
 ghost use Rattle.sources.specs.Source.{Counted};
-ghost use Rattle.settings.specs.Settings.{Held, held, put_of, changedBy};
+ghost use Rattle.settings.specs.Settings.{Held, held, put_of, changed_by};
 ghost use Rattle.settings.specs.declared.Setting.{Setting};
 ghost use Rattle.gauge_rules.specs.State.{state_of};
-ghost use Rattle.gauge_rules_v1.specs.RulesV1.{factorNumber, grantV1, textV1, repeats, unlocks, settingsV1};
+ghost use Rattle.gauge_rules_v1.specs.RulesV1.{factor_number, grant_v1, text_v1, repeats, unlocks, settings_v1};
 
 // The number of a `c` with six digits.
 fn factor_number(unlocked: bool, n: u32) -> u8
-    ensures { result ≡ factorNumber unlocked n }
+    ensures { result ≡ factor_number unlocked n }
 {
     if !unlocked {
         return 12;
@@ -23,7 +23,7 @@ fn factor_number(unlocked: bool, n: u32) -> u8
 
 // The number of a V1 request: 11 RANGE, 12 LOGIC, 13 FAULT or 0.
 pub fn number_v1(g: gauge_rules::Gauge, request: requests::RequestV1) -> u8
-    ensures { result ≡ grantV1 (state_of g) request }
+    ensures { result ≡ grant_v1 (state_of g) request }
 {
     let r = g.readings;
     let p0 = r.p0;
@@ -44,7 +44,7 @@ pub fn number_v1(g: gauge_rules::Gauge, request: requests::RequestV1) -> u8
 
 // The data of the reply to an accepted V1 request that reads.
 pub fn text_v1(g: gauge_rules::Gauge, request: requests::RequestV1) -> buffer::Text
-    ensures { text_of result ≡ textV1 (state_of g) request }
+    ensures { text_of result ≡ text_v1 (state_of g) request }
 {
     let s = g.settings;
     let r = g.readings;
@@ -90,7 +90,7 @@ pub fn unlocks_gauge(request: requests::RequestV1) -> bool
 
 // What a `c` with six digits puts.
 fn put_factor(unlocked: bool, n: u32) -> settings::Put
-    ensures { (h : Held) (list : List ℕ) → changedBy h result list ≡ first (eqb (factorNumber unlocked n) 0 ⇒ put_of h (Setting.Factor n) [] ∷ []) h }
+    ensures { (h : Held) (list : List ℕ) → changed_by h result list ≡ first (eqb (factor_number unlocked n) 0 ⇒ put_of h (Setting.Factor n) [] ∷ []) h }
 {
     if factor_number(unlocked, n) != 0 {
         return settings::Put::Nothing;
@@ -100,7 +100,7 @@ fn put_factor(unlocked: bool, n: u32) -> settings::Put
 
 // What a V1 request puts. A refused one puts nothing.
 pub fn put_v1(g: gauge_rules::Gauge, request: requests::RequestV1) -> settings::Put
-    ensures { (list : List ℕ) → changedBy (held g.settings) result list ≡ settingsV1 (state_of g) request }
+    ensures { (list : List ℕ) → changed_by (held g.settings) result list ≡ settings_v1 (state_of g) request }
 {
     match request {
         requests::RequestV1::Measure => settings::Put::Nothing,
@@ -116,7 +116,7 @@ pub fn put_v1(g: gauge_rules::Gauge, request: requests::RequestV1) -> settings::
 
 // The settings after a V1 request: an accepted one enters, a refused one changes nothing.
 pub fn enter_v1(g: gauge_rules::Gauge, request: requests::RequestV1) -> settings::Settings
-    ensures result_value { held result ≡ settingsV1 (state_of g) request }
+    ensures result_value { held result ≡ settings_v1 (state_of g) request }
     ensures counted { Counted g.settings.sources → Counted result.sources }
 {
     let s = g.settings;

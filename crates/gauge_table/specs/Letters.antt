@@ -6,11 +6,11 @@ use Rattle.buffer.specs.First.{◌⇒◌, first}
 use Rattle.buffer.specs.Byte.{at}
 use Rattle.buffer.specs.Quoted.{bytes}
 use Rattle.sources.specs.declared.Profile.TheVariants.{Standard}
-use Rattle.settings.specs.Limits.{limitsOf}
-use Rattle.readings.specs.Reading.{start, faultyPressure}
-use Rattle.gauge_rules.specs.State.{State, unlockedAs, fresh}
-use Rattle.requests.specs.AskV1.{sixDigits}
-use Rattle.gauge_table.specs.Asked.{unknownLetter, badFormV1, lockedWrite, outsideV1, measuresFaulty}
+use Rattle.settings.specs.Limits.{limits_of}
+use Rattle.readings.specs.Reading.{start, faulty_pressure}
+use Rattle.gauge_rules.specs.State.{State, unlocked_as, fresh}
+use Rattle.requests.specs.AskV1.{six_digits}
+use Rattle.gauge_table.specs.Asked.{unknown_letter, bad_form_v1, locked_write, outside_v1, measures_faulty}
 
 pub record Row : Type 0 where
   pub letter : List ℕ
@@ -72,22 +72,22 @@ table =
     ∷ []
 
 -- the table's rows of V1 from 8 on
-abbrev pub rowsV1 : State → ℕ → List ℕ → ℕ
-rowsV1 g l d =
+abbrev pub rows_v1 : State → ℕ → List ℕ → ℕ
+rows_v1 g l d =
     first
-    (unknownLetter l ⇒ 8
-    ∷ badFormV1 l d ⇒ 10
-    ∷ lockedWrite g l d ⇒ 12
-    ∷ outsideV1 l d ⇒ 11
-    ∷ measuresFaulty g l ⇒ 13
+    (unknown_letter l ⇒ 8
+    ∷ bad_form_v1 l d ⇒ 10
+    ∷ locked_write g l d ⇒ 12
+    ∷ outside_v1 l d ⇒ 11
+    ∷ measures_faulty g l ⇒ 13
     ∷ [])
     0
 
 -- these rows at a gauge at its start but for the lock
-abbrev pub numbersOf : Row → List ℕ
-numbersOf r =
+abbrev pub numbers_of : Row → List ℕ
+numbers_of r =
     map
-    (λ (unlocked : Bool). rowsV1 (unlockedAs (fresh (limitsOf Standard)) unlocked) (at r.letter 0) r.text)
+    (λ (unlocked : Bool). rows_v1 (unlocked_as (fresh (limits_of Standard)) unlocked) (at r.letter 0) r.text)
     (true ∷ false ∷ [])
 
 abbrev pub printed : Row → List ℕ

@@ -2,49 +2,49 @@
 use Rattle.std.specs.Prelude.{Bool, false, cond, not, List, [], ◌∷◌, ℕ, ltb, eqb}
 use Rattle.buffer.specs.First.{◌⇒◌, first}
 use Rattle.buffer.specs.Byte.{at}
-use Rattle.frames.specs.Frame.{dataFrom, address_of, misshapen, wrongSum, wrongAddress, wrongLength}
-use Rattle.requests.specs.Command.{commandOf}
+use Rattle.frames.specs.Frame.{data_from, address_of, misshapen, wrong_sum, wrong_address, wrong_length}
+use Rattle.requests.specs.Command.{command_of}
 use Rattle.gauge_rules.specs.State.{State}
-use Rattle.gauge_table.specs.Asked.{isV1, askedV2, wrongCode, unknownCommand, lacks, badFormV2, outsideV2, againstLogic, breaksRule, asksFaulty, unknownLetter, badFormV1, lockedWrite, outsideV1, measuresFaulty}
+use Rattle.gauge_table.specs.Asked.{is_v1, asked_v2, wrong_code, unknown_command, lacks, bad_form_v2, outside_v2, against_logic, breaks_rule, asks_faulty, unknown_letter, bad_form_v1, locked_write, outside_v1, measures_faulty}
 
 -- "lent answer memory below 64 bytes"
-abbrev pub answerRoom : ℕ
-answerRoom = 64
+abbrev pub answer_room : ℕ
+answer_room = 64
 
 -- 5 OTHER: "not this gauge's address now"
-abbrev pub otherAddress : State → List ℕ → Bool
-otherAddress g s = not (eqb (address_of s) g.settings.address)
+abbrev pub other_address : State → List ℕ → Bool
+other_address g s = not (eqb (address_of s) g.settings.address)
 
 -- a row's test: for a V1 frame the first, for a V2 frame the second
 abbrev pub test : List ℕ → Bool → Bool → Bool
-test s v1 v2 = cond (isV1 s) v1 v2
+test s v1 v2 = cond (is_v1 s) v1 v2
 
 -- "The first that applies, in this order." One row is out of the table's order: V1's lock, "checked before the number".
 unfoldable pub number_of : State → ℕ → List ℕ → ℕ
 number_of g room s =
     let l = at s 3 in
-    let d1 = dataFrom 4 s in
+    let d1 = data_from 4 s in
     let a = at s 3 in
-    let n = commandOf (at s 4) (at s 5) in
-    let d2 = dataFrom 8 s in
+    let n = command_of (at s 4) (at s 5) in
+    let d2 = data_from 8 s in
     first
     -- ROOM, SHAPE, CHECKSUM, ADDRESS, OTHER
-    (ltb room answerRoom ⇒ 1
+    (ltb room answer_room ⇒ 1
     ∷ misshapen s ⇒ 2
-    ∷ wrongSum s ⇒ 3
-    ∷ wrongAddress s ⇒ 4
-    ∷ otherAddress g s ⇒ 5
+    ∷ wrong_sum s ⇒ 3
+    ∷ wrong_address s ⇒ 4
+    ∷ other_address g s ⇒ 5
     -- LENGTH, CODE, NO_DEF, ACCESS: for V1, then for V2
-    ∷ test s false (wrongLength s) ⇒ 6
-    ∷ test s false (wrongCode a) ⇒ 7
-    ∷ test s (unknownLetter l) (unknownCommand n) ⇒ 8
+    ∷ test s false (wrong_length s) ⇒ 6
+    ∷ test s false (wrong_code a) ⇒ 7
+    ∷ test s (unknown_letter l) (unknown_command n) ⇒ 8
     ∷ test s false (lacks a n) ⇒ 9
     -- SYNTAX; the lock; RANGE; LOGIC; FAULT
-    ∷ test s (badFormV1 l d1) (badFormV2 g.limits a n d2) ⇒ 10
-    ∷ test s (lockedWrite g l d1) false ⇒ 12
-    ∷ test s (outsideV1 l d1) (outsideV2 g.limits a n d2) ⇒ 11
-    ∷ test s false (againstLogic g.limits a n d2) ⇒ 12
-    ∷ test s false (breaksRule g (askedV2 g.limits s)) ⇒ 12
-    ∷ test s (measuresFaulty g l) (asksFaulty g (askedV2 g.limits s)) ⇒ 13
+    ∷ test s (bad_form_v1 l d1) (bad_form_v2 g.limits a n d2) ⇒ 10
+    ∷ test s (locked_write g l d1) false ⇒ 12
+    ∷ test s (outside_v1 l d1) (outside_v2 g.limits a n d2) ⇒ 11
+    ∷ test s false (against_logic g.limits a n d2) ⇒ 12
+    ∷ test s false (breaks_rule g (asked_v2 g.limits s)) ⇒ 12
+    ∷ test s (measures_faulty g l) (asks_faulty g (asked_v2 g.limits s)) ⇒ 13
     ∷ [])
     0

@@ -4,10 +4,10 @@ ghost use Rattle.std.specs.Prelude.{◌≡◌, ◌+◌, ◌≤◌, length, take,
 ghost use Rattle.buffer.specs.Text.{text_of};
 ghost use Rattle.buffer.specs.Answer.{Stored, Sent};
 ghost use Rattle.sources.specs.Source.{list_of};
-ghost use Rattle.settings.specs.Limits.{limitsOf, width_of, longestLine};
+ghost use Rattle.settings.specs.Limits.{limits_of, width_of, longest_line};
 ghost use Rattle.settings.specs.Settings.{held};
-ghost use Rattle.line.specs.Line.{values_of, shownList, lineAnswer};
-ghost use Rattle.line.specs.Rows.{rowOf, rows_of, rowText, tailRows, line_of};
+ghost use Rattle.line.specs.Line.{values_of, shown_list, line_answer};
+ghost use Rattle.line.specs.Rows.{row_of, rows_of, row_text, tail_rows, line_of};
 
 // The longest line: seven values, or three of a hot cathode gauge.
 pub const ROOM: usize = 71;
@@ -16,7 +16,7 @@ pub const HOT_ROOM: usize = 30;
 
 // How many bytes the line of a profile asks for: as many as its longest line has.
 pub fn room(profile: sources::Profile) -> usize
-    ensures { result ≡ longestLine (limitsOf profile).sourceCodes }
+    ensures { result ≡ longest_line (limits_of profile).source_codes }
 {
     match profile {
         sources::Profile::Standard => ROOM,
@@ -40,7 +40,7 @@ fn width(code: u8) -> usize
 
 // A text as a row: at most so many of its characters, and zeros after them.
 fn row_of(t: buffer::Text, most: usize) -> [u8; 11]
-    ensures { result ≡ rowOf (take most (text_of t)) }
+    ensures { result ≡ row_of (take most (text_of t)) }
 {
     let n = t.size();
     let bytes = t.bytes;
@@ -73,8 +73,8 @@ fn rows_of(list: sources::Sources, r: readings::Readings) -> [[u8; 11]; 8]
 // Stores the text of a row, and returns the place after it.
 fn put_row(out: &mut [u8], at: usize, row: [u8; 11]) -> usize
     requires { at ≤ 200 }
-    ensures stored { Stored out.old at (rowText row) out.new }
-    ensures value { result ≡ at + length (rowText row) }
+    ensures stored { Stored out.old at (row_text row) out.new }
+    ensures value { result ≡ at + length (row_text row) }
     ensures upper_bound { result ≤ at + 11 }
 {
     let n = buffer::until(&row, 0);
@@ -85,8 +85,8 @@ fn put_row(out: &mut [u8], at: usize, row: [u8; 11]) -> usize
 // Stores `;` and the text of each row from the second on, up to the first that is empty, and returns the place after them.
 fn put_tail(out: &mut [u8], at: usize, rows: [[u8; 11]; 8]) -> usize
     requires { at ≤ 11 }
-    ensures stored { Stored out.old at (tailRows (drop 1 rows)) out.new }
-    ensures value { result ≡ at + length (tailRows (drop 1 rows)) }
+    ensures stored { Stored out.old at (tail_rows (drop 1 rows)) out.new }
+    ensures value { result ≡ at + length (tail_rows (drop 1 rows)) }
 {
     let mut p = at;
     let mut i: usize = 1;
@@ -105,7 +105,7 @@ fn put_tail(out: &mut [u8], at: usize, rows: [[u8; 11]; 8]) -> usize
 
 // The list that the line shows: none where SM could not have it, which no call makes.
 fn shown_list(profile: sources::Profile, q: sources::Sources) -> sources::Sources
-    ensures { list_of result ≡ shownList (limitsOf profile).sourceCodes (list_of q) }
+    ensures { list_of result ≡ shown_list (limits_of profile).source_codes (list_of q) }
 {
     if sources::is_listable(profile, q) {
         return q;
@@ -132,7 +132,7 @@ pub fn stream_line(
     r: readings::Readings,
     out: &mut [u8],
 ) -> buffer::Written
-    ensures { Sent out.old (lineAnswer (limitsOf profile) (length out.old) (held s) r) out.new result }
+    ensures { Sent out.old (line_answer (limits_of profile) (length out.old) (held s) r) out.new result }
 {
     if out.len() < room(profile) {
         return buffer::Written { number: 1, len: 0 };

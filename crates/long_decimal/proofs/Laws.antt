@@ -8,15 +8,15 @@ use lib.Dec.{ltb, leb, eqb}
 use borrow.Author.Tests.{lt-ltb, le-leb, lt-leb, leb-false, leb-true, eq-eqb, ne_eqb}
 use lib.ListN.{length, get_or, take, drop, drop_of_length-le}
 use Rattle.buffer.specs.First.{pick}
-use Rattle.buffer.specs.Byte.{numeralFrom, numeral, leading}
-use Rattle.buffer.proofs.Laws.{drop-step, ten-max}
+use Rattle.buffer.specs.Byte.{numeral_from, numeral, leading}
+use Rattle.buffer.proofs.Laws.{drop_step, ten_max}
 use Rattle.buffer.proofs.Rules.{past, stop, each}
-use Rattle.decimal.specs.Form.{whole, powerOf, exponentOf}
+use Rattle.decimal.specs.Form.{whole, power_of, exponent_of}
 use Rattle.decimal.specs.declared.Exact.{Exact}
 use Rattle.decimal.specs.declared.Scan.{Scan}
 use Rattle.decimal.specs.declared.Scan.TheVariants.{Of, NoForm}
-use Rattle.decimal.proofs.Laws.{numeral-front}
-use Rattle.long_decimal.specs.Long.{significant, decimalValue, spelledOf}
+use Rattle.decimal.proofs.Laws.{numeral_front}
+use Rattle.long_decimal.specs.Long.{significant, decimal_value, spelled_of}
 
 -- ---- the digits up to the last that is not `0`
 
@@ -27,10 +27,10 @@ up_to n i x = pick (ltb 0 x) (i + x) n
 some : (x : ℕ) → ltb 0 (suc x) ≡ true
 some x = lt-ltb 0 (suc x) (omega arith)
 
-pub up-to-start : (x : ℕ) → x ≡ up_to 0 0 x
+pub up_to_start : (x : ℕ) → x ≡ up_to 0 0 x
 unfolding pick
-up-to-start zero = refl
-up-to-start (suc x) = rw (some x) (omega arith)
+up_to_start zero = refl
+up_to_start (suc x) = rw (some x) (omega arith)
 
 -- one character more; y is how many there are after it
 with : ℕ → ℕ → ℕ
@@ -38,7 +38,7 @@ with last y = pick (ltb 0 y) (y + 1) last
 
 step : (s : List ℕ) (i : ℕ) → i < length s → significant (drop i s) ≡ with (pick (eqb (get_or s i 0) 48) 0 1) (significant (drop (i + 1) s))
 unfolding significant with
-step s i h = ap significant (drop-step s i h)
+step s i h = ap significant (drop_step s i h)
 
 counted : (n i y : ℕ) → up_to n i (with 1 y) ≡ up_to (i + 1) (i + 1) y
 unfolding pick with
@@ -50,65 +50,65 @@ unfolding pick with
 passed n i zero = refl
 passed n i (suc y) = rw (some y, lt-ltb 0 (suc y + 1) (omega arith)) (omega arith)
 
-pub up-to-digit : (s : List ℕ) (n i : ℕ) → i < length s → eqb (get_or s i 0) 48 ≡ false
+pub up_to_digit : (s : List ℕ) (n i : ℕ) → i < length s → eqb (get_or s i 0) 48 ≡ false
     → up_to n i (significant (drop i s)) ≡ up_to (i + 1) (i + 1) (significant (drop (i + 1) s))
 unfolding pick
-up-to-digit s n i h e = ap (up_to n i) (step s i h ∙ ap (λ (t : Bool). with (pick t 0 1) (significant (drop (i + 1) s))) e) ∙ counted n i (significant (drop (i + 1) s))
+up_to_digit s n i h e = ap (up_to n i) (step s i h ∙ ap (λ (t : Bool). with (pick t 0 1) (significant (drop (i + 1) s))) e) ∙ counted n i (significant (drop (i + 1) s))
 
 pub up_to_zero : (s : List ℕ) (n i : ℕ) → i < length s → eqb (get_or s i 0) 48 ≡ true
     → up_to n i (significant (drop i s)) ≡ up_to n (i + 1) (significant (drop (i + 1) s))
 unfolding pick
 up_to_zero s n i h e = ap (up_to n i) (step s i h ∙ ap (λ (t : Bool). with (pick t 0 1) (significant (drop (i + 1) s))) e) ∙ passed n i (significant (drop (i + 1) s))
 
-pub up-to-end : (s : List ℕ) (n i : ℕ) → length s ≤ i → up_to n i (significant (drop i s)) ≡ n
+pub up_to_end : (s : List ℕ) (n i : ℕ) → length s ≤ i → up_to n i (significant (drop i s)) ≡ n
 unfolding significant pick
-up-to-end s n i h = ap (λ (l : List ℕ). up_to n i (significant l)) (drop_of_length-le s h)
+up_to_end s n i h = ap (λ (l : List ℕ). up_to n i (significant l)) (drop_of_length-le s h)
 
-pub significant-le : (s : List ℕ) → significant s ≤ length s
+pub significant_le : (s : List ℕ) → significant s ≤ length s
 unfolding significant
-significant-le [] = omega arith
-significant-le (x ∷ s) =
-    each (λ (n : ℕ). n ≤ suc (length s)) (ltb 0 (significant s)) _ _ (λ e. omega (arith, significant-le s))
+significant_le [] = omega arith
+significant_le (x ∷ s) =
+    each (λ (n : ℕ). n ≤ suc (length s)) (ltb 0 (significant s)) _ _ (λ e. omega (arith, significant_le s))
     (λ e. each (λ (n : ℕ). n ≤ suc (length s)) (eqb x 48) 0 1 (λ f. omega arith) (λ f. omega arith))
 
 -- ---- numbers that digits spell
 
-pub spells-step : (s : List ℕ) (n i : ℕ) → i < length s → numeralFrom n (drop i s) ≡ numeralFrom (n * 10 + (get_or s i 0 - 48)) (drop (i + 1) s)
-unfolding numeralFrom
-spells-step s n i h = ap (numeralFrom n) (drop-step s i h)
+pub spells_step : (s : List ℕ) (n i : ℕ) → i < length s → numeral_from n (drop i s) ≡ numeral_from (n * 10 + (get_or s i 0 - 48)) (drop (i + 1) s)
+unfolding numeral_from
+spells_step s n i h = ap (numeral_from n) (drop_step s i h)
 
-pub spells-end : (s : List ℕ) (n i : ℕ) → length s ≤ i → numeralFrom n (drop i s) ≡ n
-unfolding numeralFrom
-spells-end s n i h = ap (numeralFrom n) (drop_of_length-le s h)
+pub spells_end : (s : List ℕ) (n i : ℕ) → length s ≤ i → numeral_from n (drop i s) ≡ n
+unfolding numeral_from
+spells_end s n i h = ap (numeral_from n) (drop_of_length-le s h)
 
-pub spells-more : (s : List ℕ) (n : ℕ) → n ≤ numeralFrom n s
-unfolding numeralFrom
-spells-more [] n = omega arith
-spells-more (x ∷ s) n = omega (arith, spells-more s (n * 10 + (x - 48)))
+pub spells_more : (s : List ℕ) (n : ℕ) → n ≤ numeral_from n s
+unfolding numeral_from
+spells_more [] n = omega arith
+spells_more (x ∷ s) n = omega (arith, spells_more s (n * 10 + (x - 48)))
 
-pub spells-on : (w f : List ℕ) (n : ℕ) → numeralFrom n (w ++ f) ≡ numeralFrom (numeralFrom n w) f
-unfolding numeralFrom
-spells-on [] f n = refl
-spells-on (x ∷ w) f n = spells-on w f (n * 10 + (x - 48))
+pub spells_on : (w f : List ℕ) (n : ℕ) → numeral_from n (w ++ f) ≡ numeral_from (numeral_from n w) f
+unfolding numeral_from
+spells_on [] f n = refl
+spells_on (x ∷ w) f n = spells_on w f (n * 10 + (x - 48))
 
 -- a million stands for any number that is as large
-pub enough : (n : ℕ) (f : List ℕ) → min 1000000 (numeralFrom (min 1000000 n) f) ≡ min 1000000 (numeralFrom n f)
+pub enough : (n : ℕ) (f : List ℕ) → min 1000000 (numeral_from (min 1000000 n) f) ≡ min 1000000 (numeral_from n f)
 enough n f = go (leb 1000000 n) refl
   where
-    go : (t : Bool) → leb 1000000 n ≡ t → min 1000000 (numeralFrom (min 1000000 n) f) ≡ min 1000000 (numeralFrom n f)
+    go : (t : Bool) → leb 1000000 n ≡ t → min 1000000 (numeral_from (min 1000000 n) f) ≡ min 1000000 (numeral_from n f)
     go true e =
         let h = leb-true 1000000 n e in
-        omega (arith, spells-more f (min 1000000 n), spells-more f n)
+        omega (arith, spells_more f (min 1000000 n), spells_more f n)
     go false e =
         let h = leb-false 1000000 n e in
         let m : min 1000000 n ≡ n = omega arith in
         rw m
 
-pub as-a-million : (negative : Bool) (n up down : ℕ) (e : List ℕ) → decimalValue negative (min 1000000 n) up down e ≡ decimalValue negative n up down e
-unfolding decimalValue pick
-as-a-million negative n up down e = go (leb 1000000 n) refl
+pub as_a_million : (negative : Bool) (n up down : ℕ) (e : List ℕ) → decimal_value negative (min 1000000 n) up down e ≡ decimal_value negative n up down e
+unfolding decimal_value pick
+as_a_million negative n up down e = go (leb 1000000 n) refl
   where
-    go : (t : Bool) → leb 1000000 n ≡ t → decimalValue negative (min 1000000 n) up down e ≡ decimalValue negative n up down e
+    go : (t : Bool) → leb 1000000 n ≡ t → decimal_value negative (min 1000000 n) up down e ≡ decimal_value negative n up down e
     go true f =
         let h = leb-true 1000000 n f in
         rw (f, le-leb 1000000 (min 1000000 n) (omega arith))
@@ -127,8 +127,8 @@ abbrev pub SmallScan : Scan → Type 0
 SmallScan (Of x) = Small x
 SmallScan NoForm = Unit {0}
 
-power_small : (s : List ℕ) (negative : Bool) (n : ℕ) (below : Bool) → SmallScan (powerOf s (whole negative n) below)
-unfolding powerOf
+power_small : (s : List ℕ) (negative : Bool) (n : ℕ) (below : Bool) → SmallScan (power_of s (whole negative n) below)
+unfolding power_of
 power_small s negative n below =
     each SmallScan _ _ _ (λ e. tt) (λ e. each SmallScan _ _ _ (λ e. tt)
     (λ e. each SmallScan _ _ _ (λ f. tt) (λ f. each SmallScan _ _ _ (λ g. record { up = omega arith; down = omega (arith, low e) }) (λ g. record { up = omega (arith, low e); down = omega arith }))))
@@ -136,10 +136,10 @@ power_small s negative n below =
     low : leb 3 (leading s) ≡ false → numeral (take (leading s) s) < 100
     low e =
         let h = leb-false 3 (leading s) e in
-        omega (arith, numeral-front s 0 (leading s) (omega arith), ten-max (leading s) 2 (omega arith))
+        omega (arith, numeral_front s 0 (leading s) (omega arith), ten_max (leading s) 2 (omega arith))
 
-pub exponent_small : (s : List ℕ) (negative : Bool) (n : ℕ) → SmallScan (exponentOf s (whole negative n))
-unfolding exponentOf
+pub exponent_small : (s : List ℕ) (negative : Bool) (n : ℕ) → SmallScan (exponent_of s (whole negative n))
+unfolding exponent_of
 exponent_small s negative n =
     each SmallScan _ _ _ (λ e. record { up = omega arith; down = omega arith })
     (λ e. each SmallScan _ _ _ (λ f. tt) (λ f. each SmallScan _ _ _ (λ g. power_small _ negative n true) (λ g. power_small _ negative n false)))
@@ -147,19 +147,19 @@ exponent_small s negative n =
 -- ---- the two ways to spell
 
 pub whole_is : (negative : Bool) (w f e : List ℕ) (m k n : ℕ) → m ≡ significant w → k ≡ significant f → n ≡ min 1000000 (numeral (take m w))
-    → length w < 101 → length f < 101 → k ≡ 0 → decimalValue negative n (length w - m) 0 e ≡ spelledOf negative w f e
-unfolding spelledOf
+    → length w < 101 → length f < 101 → k ≡ 0 → decimal_value negative n (length w - m) 0 e ≡ spelled_of negative w f e
+unfolding spelled_of
 whole_is negative w f e m k n a b c h i z =
     past _ _ _ _ (lt-leb 101 (length w) h) (past _ _ _ _ (lt-leb 101 (length f) i) (stop _ _ _ _ (eq-eqb (significant f) 0 (sym b ∙ z))
-    (ap (λ (x : ℕ). decimalValue negative x (length w - m) 0 e) c ∙ as-a-million negative (numeral (take m w)) (length w - m) 0 e
-    ∙ ap (λ (x : ℕ). decimalValue negative (numeral (take x w)) (length w - x) 0 e) a)))
+    (ap (λ (x : ℕ). decimal_value negative x (length w - m) 0 e) c ∙ as_a_million negative (numeral (take m w)) (length w - m) 0 e
+    ∙ ap (λ (x : ℕ). decimal_value negative (numeral (take x w)) (length w - x) 0 e) a)))
 
-pub pointed-is : (negative : Bool) (w f e : List ℕ) (k v n : ℕ) → k ≡ significant f → v ≡ min 1000000 (numeral w) → n ≡ min 1000000 (numeralFrom v (take k f))
-    → length w < 101 → length f < 101 → (k ≡ 0 → ⊥) → decimalValue negative n 0 k e ≡ spelledOf negative w f e
-unfolding spelledOf
-pointed-is negative w f e k v n a b c h i z =
+pub pointed_is : (negative : Bool) (w f e : List ℕ) (k v n : ℕ) → k ≡ significant f → v ≡ min 1000000 (numeral w) → n ≡ min 1000000 (numeral_from v (take k f))
+    → length w < 101 → length f < 101 → (k ≡ 0 → ⊥) → decimal_value negative n 0 k e ≡ spelled_of negative w f e
+unfolding spelled_of
+pointed_is negative w f e k v n a b c h i z =
     past _ _ _ _ (lt-leb 101 (length w) h) (past _ _ _ _ (lt-leb 101 (length f) i) (past _ _ _ _ (ne_eqb (significant f) 0 (λ (y : significant f ≡ 0). z (a ∙ y)))
-    (ap (λ (x : ℕ). decimalValue negative x 0 k e) (c ∙ ap (λ (x : ℕ). min 1000000 (numeralFrom x (take k f))) b ∙ enough (numeral w) (take k f))
-    ∙ as-a-million negative (numeralFrom (numeral w) (take k f)) 0 k e
-    ∙ ap (λ (x : ℕ). decimalValue negative x 0 k e) (sym (spells-on w (take k f) 0))
-    ∙ ap (λ (x : ℕ). decimalValue negative (numeral (w ++ take x f)) 0 x e) a)))
+    (ap (λ (x : ℕ). decimal_value negative x 0 k e) (c ∙ ap (λ (x : ℕ). min 1000000 (numeral_from x (take k f))) b ∙ enough (numeral w) (take k f))
+    ∙ as_a_million negative (numeral_from (numeral w) (take k f)) 0 k e
+    ∙ ap (λ (x : ℕ). decimal_value negative x 0 k e) (sym (spells_on w (take k f) 0))
+    ∙ ap (λ (x : ℕ). decimal_value negative (numeral (w ++ take x f)) 0 x e) a)))

@@ -3,7 +3,7 @@
 use Rattle.std.specs.Prelude.{Bool, true, false, List, [], ◌∷◌, ◌++◌, ℕ, ◌+◌, ◌-◌, ltb, leb, eqb, length, take, drop}
 use Rattle.buffer.specs.First.{◌⇒◌, first}
 use Rattle.buffer.specs.Byte.{numeral, leading, starts_with}
-use Rattle.decimal.specs.Form.{whole, exponentOf}
+use Rattle.decimal.specs.Form.{whole, exponent_of}
 use Rattle.decimal.specs.declared.Scan.{Scan}
 use Rattle.decimal.specs.declared.Scan.TheVariants.{Of, NoForm}
 
@@ -13,43 +13,43 @@ significant [] = 0
 significant (x ∷ s) = first (ltb 0 (significant s) ⇒ (significant s + 1) ∷ eqb x 48 ⇒ 0 ∷ []) 1
 
 -- a value times 10 ^ up / 10 ^ down
-unfoldable pub movedOf : ℕ → ℕ → Scan → Scan
-movedOf up down (Of x) = Of (record { negative = x.negative; digits = x.digits; up = x.up + up; down = x.down + down })
-movedOf up down NoForm = NoForm
+unfoldable pub moved_of : ℕ → ℕ → Scan → Scan
+moved_of up down (Of x) = Of (record { negative = x.negative; digits = x.digits; up = x.up + up; down = x.down + down })
+moved_of up down NoForm = NoForm
 
 -- n * 10 ^ up / 10 ^ down, times the power that the text e says; e is what follows the digits, nothing or an exponent
-unfoldable pub decimalValue : Bool → ℕ → ℕ → ℕ → List ℕ → Scan
-decimalValue negative n up down e = first (leb 1000000 n ⇒ NoForm ∷ []) (movedOf up down (exponentOf e (whole negative n)))
+unfoldable pub decimal_value : Bool → ℕ → ℕ → ℕ → List ℕ → Scan
+decimal_value negative n up down e = first (leb 1000000 n ⇒ NoForm ∷ []) (moved_of up down (exponent_of e (whole negative n)))
 
 -- the digits w before the point and f after it: zeros at the end are not among those that count
-unfoldable pub spelledOf : Bool → List ℕ → List ℕ → List ℕ → Scan
-spelledOf negative w f e =
+unfoldable pub spelled_of : Bool → List ℕ → List ℕ → List ℕ → Scan
+spelled_of negative w f e =
     let m = significant w in
     let k = significant f in
     first
     (leb 101 (length w) ⇒ NoForm
     ∷ leb 101 (length f) ⇒ NoForm
-    ∷ eqb k 0 ⇒ decimalValue negative (numeral (take m w)) (length w - m) 0 e
+    ∷ eqb k 0 ⇒ decimal_value negative (numeral (take m w)) (length w - m) 0 e
     ∷ [])
-    (decimalValue negative (numeral (w ++ take k f)) 0 k e)
+    (decimal_value negative (numeral (w ++ take k f)) 0 k e)
 
 -- after the point: "digits"
-unfoldable pub pointedOf : Bool → List ℕ → List ℕ → Scan
-pointedOf negative w s =
+unfoldable pub pointed_of : Bool → List ℕ → List ℕ → Scan
+pointed_of negative w s =
     let k = leading s in
-    first (ltb k 1 ⇒ NoForm ∷ []) (spelledOf negative w (take k s) (drop k s))
+    first (ltb k 1 ⇒ NoForm ∷ []) (spelled_of negative w (take k s) (drop k s))
 
 -- "digits, optionally `.` and digits"
-unfoldable pub unsignedOf : Bool → List ℕ → Scan
-unsignedOf negative s =
+unfoldable pub unsigned_of : Bool → List ℕ → Scan
+unsigned_of negative s =
     let n = leading s in
     let t = drop n s in
     first
     (ltb n 1 ⇒ NoForm
-    ∷ starts_with 46 t ⇒ pointedOf negative (take n s) (drop 1 t)
+    ∷ starts_with 46 t ⇒ pointed_of negative (take n s) (drop 1 t)
     ∷ [])
-    (spelledOf negative (take n s) [] t)
+    (spelled_of negative (take n s) [] t)
 
 -- "an optional `-`"
-unfoldable pub decimalOf : List ℕ → Scan
-decimalOf s = first (starts_with 45 s ⇒ unsignedOf true (drop 1 s) ∷ []) (unsignedOf false s)
+unfoldable pub decimal_of : List ℕ → Scan
+decimal_of s = first (starts_with 45 s ⇒ unsigned_of true (drop 1 s) ∷ []) (unsigned_of false s)

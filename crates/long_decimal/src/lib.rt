@@ -1,7 +1,7 @@
 // Decimals as people write them: document 01's form without its limit of six digits, by their value (`1013.2500`, `0.0000001`, `1000000`).
 ghost use Rattle.std.specs.Prelude.{◌≡◌, ◌≤◌, min};
-ghost use Rattle.buffer.specs.Byte.{numeralFrom};
-ghost use Rattle.long_decimal.specs.Long.{significant, decimalValue, spelledOf, pointedOf, unsignedOf, decimalOf};
+ghost use Rattle.buffer.specs.Byte.{numeral_from};
+ghost use Rattle.long_decimal.specs.Long.{significant, decimal_value, spelled_of, pointed_of, unsigned_of, decimal_of};
 
 use decimal::{Exact, Scan};
 
@@ -23,7 +23,7 @@ fn count_significant(s: &[u8]) -> usize
 
 // The number that digits spell after another number, or a million where it is more.
 fn spell_after(v: u32, s: &[u8]) -> u32
-    ensures { result ≡ min 1000000 (numeralFrom v s.now) }
+    ensures { result ≡ min 1000000 (numeral_from v s.now) }
 {
     let mut n = v;
     let mut i: usize = 0;
@@ -43,7 +43,7 @@ fn spell_after(v: u32, s: &[u8]) -> u32
 // A number, moved up and down by powers of ten, with what follows its digits.
 fn value_of(negative: bool, n: u32, up: u8, down: u8, e: &[u8]) -> Scan
     requires { (up ≤ 100) × (down ≤ 100) }
-    ensures { result ≡ decimalValue negative n up down e.now }
+    ensures { result ≡ decimal_value negative n up down e.now }
 {
     if 1000000 <= n {
         return Scan::NoForm;
@@ -61,7 +61,7 @@ fn value_of(negative: bool, n: u32, up: u8, down: u8, e: &[u8]) -> Scan
 
 // The digits before the point, those after it, and what follows them.
 fn spell(negative: bool, w: &[u8], f: &[u8], e: &[u8]) -> Scan
-    ensures { result ≡ spelledOf negative w.now f.now e.now }
+    ensures { result ≡ spelled_of negative w.now f.now e.now }
 {
     if 101 <= w.len() {
         return Scan::NoForm;
@@ -81,7 +81,7 @@ fn spell(negative: bool, w: &[u8], f: &[u8], e: &[u8]) -> Scan
 
 // What follows the point.
 fn pointed(negative: bool, w: &[u8], s: &[u8]) -> Scan
-    ensures { result ≡ pointedOf negative w.now s.now }
+    ensures { result ≡ pointed_of negative w.now s.now }
 {
     let k = buffer::count_digits(s);
     if k < 1 {
@@ -91,7 +91,7 @@ fn pointed(negative: bool, w: &[u8], s: &[u8]) -> Scan
 }
 
 fn unsigned(negative: bool, s: &[u8]) -> Scan
-    ensures { result ≡ unsignedOf negative s.now }
+    ensures { result ≡ unsigned_of negative s.now }
 {
     let n = buffer::count_digits(s);
     if n < 1 {
@@ -106,7 +106,7 @@ fn unsigned(negative: bool, s: &[u8]) -> Scan
 
 // The exact value of a decimal, or none.
 pub fn read_decimal(s: &[u8]) -> Scan
-    ensures { result ≡ decimalOf s.now }
+    ensures { result ≡ decimal_of s.now }
 {
     if buffer::starts_with(s, b'-') {
         return unsigned(true, buffer::rest(s, 1));

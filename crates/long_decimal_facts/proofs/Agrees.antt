@@ -9,39 +9,39 @@ use lib.Dec.{ltb, leb, eqb}
 use borrow.Author.Tests.{lt-leb, leb-false, eqb-true}
 use lib.ListN.{length, take, drop, length-take}
 use Rattle.buffer.specs.First.{pick}
-use Rattle.buffer.specs.Byte.{numeralFrom, numeral, leading, starts_with}
-use Rattle.buffer.proofs.Laws.{ten-max, leading_le}
+use Rattle.buffer.specs.Byte.{numeral_from, numeral, leading, starts_with}
+use Rattle.buffer.proofs.Laws.{ten_max, leading_le}
 use Rattle.decimal.specs.Form as form
-use Rattle.decimal.specs.Form.{whole, powerOf, exponentOf, scanOf}
+use Rattle.decimal.specs.Form.{whole, power_of, exponent_of, scan_of}
 use Rattle.decimal.specs.declared.Exact.{Exact}
 use Rattle.decimal.specs.declared.Scan.{Scan}
 use Rattle.decimal.specs.declared.Scan.TheVariants.{Of, NoForm}
-use Rattle.decimal.proofs.Laws.{numeral-front}
-use Rattle.decimal.proofs.Sizes.{ten-pos}
-use Rattle.long_decimal.specs.Long.{significant, movedOf, decimalValue, spelledOf, pointedOf, unsignedOf, decimalOf}
-use Rattle.long_decimal.proofs.Laws.{significant-le, spells-on}
+use Rattle.decimal.proofs.Laws.{numeral_front}
+use Rattle.decimal.proofs.Sizes.{ten_pos}
+use Rattle.long_decimal.specs.Long.{significant, moved_of, decimal_value, spelled_of, pointed_of, unsigned_of, decimal_of}
+use Rattle.long_decimal.proofs.Laws.{significant_le, spells_on}
 use Rattle.long_decimal_facts.specs.Value.{ReadAs}
 use Rattle.long_decimal_facts.specs.Theorems.{AsTheForm}
 
 -- ---- powers of ten
 
-ten-add : (a b : ℕ) → 10 ^ (a + b) ≡ 10 ^ a * 10 ^ b
-ten-add a zero = ap (λ (n : ℕ). 10 ^ n) (add-zero a) ∙ sym (mul-one (10 ^ a))
-ten-add a (suc b) =
-    ap (λ (n : ℕ). 10 ^ n) (add-suc a b) ∙ pow-suc 10 (a + b) ∙ ap (λ (n : ℕ). n * 10) (ten-add a b) ∙ mul_assoc (10 ^ a) (10 ^ b) 10
+ten_add : (a b : ℕ) → 10 ^ (a + b) ≡ 10 ^ a * 10 ^ b
+ten_add a zero = ap (λ (n : ℕ). 10 ^ n) (add-zero a) ∙ sym (mul-one (10 ^ a))
+ten_add a (suc b) =
+    ap (λ (n : ℕ). 10 ^ n) (add-suc a b) ∙ pow-suc 10 (a + b) ∙ ap (λ (n : ℕ). n * 10) (ten_add a b) ∙ mul_assoc (10 ^ a) (10 ^ b) 10
     ∙ ap (λ (n : ℕ). 10 ^ a * n) (sym (pow-suc 10 b))
 
 -- d times 10 ^ p, 10 ^ z, 10 ^ f and 10 ^ q, in two orders
-whole-size : (d p z f q : ℕ) → d * 10 ^ (p + z) * 10 ^ (f + q) ≡ d * 10 ^ z * 10 ^ f * 10 ^ p * 10 ^ q
-whole-size d p z f q =
-    ap₂ (λ (a b : ℕ). d * a * b) (ten-add p z) (ten-add f q)
+whole_size : (d p z f q : ℕ) → d * 10 ^ (p + z) * 10 ^ (f + q) ≡ d * 10 ^ z * 10 ^ f * 10 ^ p * 10 ^ q
+whole_size d p z f q =
+    ap₂ (λ (a b : ℕ). d * a * b) (ten_add p z) (ten_add f q)
     ∙ sym (mul_assoc (d * (10 ^ p * 10 ^ z)) (10 ^ f) (10 ^ q))
     ∙ ap (λ (a : ℕ). a * 10 ^ f * 10 ^ q) (sym (mul_assoc d (10 ^ p) (10 ^ z)) ∙ mul_right_comm d (10 ^ p) (10 ^ z))
     ∙ ap (λ (a : ℕ). a * 10 ^ q) (mul_right_comm (d * 10 ^ z) (10 ^ p) (10 ^ f))
 
-point-size : (d p r k q : ℕ) → d * 10 ^ p * 10 ^ (r + k + q) ≡ d * 10 ^ r * 10 ^ p * 10 ^ (q + k)
-point-size d p r k q =
-    ap (λ (a : ℕ). d * 10 ^ p * a) (ap (λ (n : ℕ). 10 ^ n) (omega arith) ∙ ten-add r (q + k))
+point_size : (d p r k q : ℕ) → d * 10 ^ p * 10 ^ (r + k + q) ≡ d * 10 ^ r * 10 ^ p * 10 ^ (q + k)
+point_size d p r k q =
+    ap (λ (a : ℕ). d * 10 ^ p * a) (ap (λ (n : ℕ). 10 ^ n) (omega arith) ∙ ten_add r (q + k))
     ∙ sym (mul_assoc (d * 10 ^ p) (10 ^ r) (10 ^ (q + k))) ∙ ap (λ (a : ℕ). a * 10 ^ (q + k)) (mul_right_comm d (10 ^ p) (10 ^ r))
 
 -- ---- zeros at the end of digits
@@ -49,15 +49,15 @@ point-size d p r k q =
 times : (v l : ℕ) → v * 10 * 10 ^ l ≡ v * 10 ^ suc l
 times v l = mul_right_comm v 10 (10 ^ l) ∙ mul_assoc v (10 ^ l) 10 ∙ ap (λ (n : ℕ). v * n) (sym (pow-suc 10 l))
 
-trimmed : (f : List ℕ) (v : ℕ) → numeralFrom v f ≡ numeralFrom v (take (significant f) f) * 10 ^ (length f - significant f)
-unfolding significant numeralFrom pick
+trimmed : (f : List ℕ) (v : ℕ) → numeral_from v f ≡ numeral_from v (take (significant f) f) * 10 ^ (length f - significant f)
+unfolding significant numeral_from pick
 trimmed [] v = sym (mul-one v)
 trimmed (x ∷ f) v = go (ltb 0 (significant f)) (eqb x 48) refl refl (trimmed f (v * 10 + (x - 48)))
   where
     go : (b c : Bool) → ltb 0 (significant f) ≡ b → eqb x 48 ≡ c
-        → numeralFrom (v * 10 + (x - 48)) f ≡ numeralFrom (v * 10 + (x - 48)) (take (significant f) f) * 10 ^ (length f - significant f)
-        → numeralFrom (v * 10 + (x - 48)) f
-        ≡ numeralFrom v (take (pick b (significant f + 1) (pick c 0 1)) (x ∷ f)) * 10 ^ (suc (length f) - pick b (significant f + 1) (pick c 0 1))
+        → numeral_from (v * 10 + (x - 48)) f ≡ numeral_from (v * 10 + (x - 48)) (take (significant f) f) * 10 ^ (length f - significant f)
+        → numeral_from (v * 10 + (x - 48)) f
+        ≡ numeral_from v (take (pick b (significant f + 1) (pick c 0 1)) (x ∷ f)) * 10 ^ (suc (length f) - pick b (significant f + 1) (pick c 0 1))
     go true c g h ih =
         let e : suc (length f) - (significant f + 1) ≡ length f - significant f = omega arith in
         let one : significant f + 1 ≡ suc (significant f) = omega arith in
@@ -67,15 +67,15 @@ trimmed (x ∷ f) v = go (ltb 0 (significant f)) (eqb x 48) refl refl (trimmed f
         let w : v * 10 + (x - 48) ≡ v * 10 = omega (arith, eqb-true x 48 h) in
         let l : length f - 0 ≡ length f = omega arith in
         let m : suc (length f) ≡ suc (length f) - 0 = omega arith in
-        ap (λ (n : ℕ). numeralFrom n f) w ∙ (rw (z, w) at ih) ∙ ap (λ (n : ℕ). v * 10 * 10 ^ n) l ∙ times v (length f) ∙ ap (λ (n : ℕ). v * 10 ^ n) m
+        ap (λ (n : ℕ). numeral_from n f) w ∙ (rw (z, w) at ih) ∙ ap (λ (n : ℕ). v * 10 * 10 ^ n) l ∙ times v (length f) ∙ ap (λ (n : ℕ). v * 10 ^ n) m
     go false false g h ih =
         let z : significant f ≡ 0 = omega (arith, leb-false 1 (significant f) g) in
         let e : suc (length f) - 1 ≡ length f - 0 = omega arith in
         rw e (rw z at ih)
 
 -- digits spelled after a number
-shifted : (f : List ℕ) (v : ℕ) → numeralFrom v f ≡ v * 10 ^ length f + numeral f
-unfolding numeralFrom
+shifted : (f : List ℕ) (v : ℕ) → numeral_from v f ≡ v * 10 ^ length f + numeral f
+unfolding numeral_from
 shifted [] v = sym (mul-one v) ∙ omega arith
 shifted (x ∷ f) v =
     let d = x - 48 in
@@ -93,100 +93,100 @@ powered p q x = record { negative = x.negative; digits = x.digits; up = p; down 
 abbrev raised : ℕ → Exact → Exact
 raised p x = record { negative = x.negative; digits = x.digits; up = p; down = x.down }
 
-not-of : {A : Type 0} (x : Exact) → NoForm ≡ Of x → A
-not-of x e = absurd (subst bad e tt)
+not_of : {A : Type 0} (x : Exact) → NoForm ≡ Of x → A
+not_of x e = absurd (subst bad e tt)
   where
     bad : Scan → Type 0
     bad (Of x) = ⊥
     bad NoForm = Unit {0}
 
-of-same : (x y : Exact) → Of x ≡ Of y → x ≡ y
-of-same x y e = ap taken e
+of_same : (x y : Exact) → Of x ≡ Of y → x ≡ y
+of_same x y e = ap taken e
   where
     taken : Scan → Exact
     taken (Of z) = z
     taken NoForm = x
 
-power-up : (s : List ℕ) (x y z : Exact) (below : Bool) → powerOf s x below ≡ Of y
-    → powerOf s z below ≡ pick below (Of (powered 0 (numeral (take (leading s) s)) z)) (Of (raised (numeral (take (leading s) s)) z))
-unfolding powerOf pick
-power-up s x y z below e = go (ltb (leading s) 1) (leb 3 (leading s)) (ltb (leading s) (length s)) e
+power_up : (s : List ℕ) (x y z : Exact) (below : Bool) → power_of s x below ≡ Of y
+    → power_of s z below ≡ pick below (Of (powered 0 (numeral (take (leading s) s)) z)) (Of (raised (numeral (take (leading s) s)) z))
+unfolding power_of pick
+power_up s x y z below e = go (ltb (leading s) 1) (leb 3 (leading s)) (ltb (leading s) (length s)) e
   where
     R : Exact → Scan
     R x = pick below (Of (powered 0 (numeral (take (leading s) s)) x)) (Of (raised (numeral (take (leading s) s)) x))
 
     go : (a b c : Bool) → pick a NoForm (pick b NoForm (pick c NoForm (R x))) ≡ Of y → pick a NoForm (pick b NoForm (pick c NoForm (R z))) ≡ R z
-    go true b c f = not-of y f
-    go false true c f = not-of y f
-    go false false true f = not-of y f
+    go true b c f = not_of y f
+    go false true c f = not_of y f
+    go false false true f = not_of y f
     go false false false f = refl
 
 -- what follows the digits says a power, whatever the digits are
 record Power (e : List ℕ) : Type 0 where
   p : ℕ
   q : ℕ
-  says : (x : Exact) → x.up ≡ 0 → exponentOf e x ≡ Of (powered p q x)
+  says : (x : Exact) → x.up ≡ 0 → exponent_of e x ≡ Of (powered p q x)
 
-power : (e : List ℕ) (x y : Exact) → exponentOf e x ≡ Of y → Power e
-unfolding exponentOf pick
+power : (e : List ℕ) (x y : Exact) → exponent_of e x ≡ Of y → Power e
+unfolding exponent_of pick
 power e x y = go (eqb (length e) 0) (not (starts_with 101 e || starts_with 69 e)) (starts_with 45 (drop 1 e)) refl refl refl
   where
     go : (a b c : Bool) → eqb (length e) 0 ≡ a → not (starts_with 101 e || starts_with 69 e) ≡ b → starts_with 45 (drop 1 e) ≡ c
-        → pick a (Of x) (pick b NoForm (pick c (powerOf (drop 1 (drop 1 e)) x true) (powerOf (drop 1 e) x false))) ≡ Of y → Power e
+        → pick a (Of x) (pick b NoForm (pick c (power_of (drop 1 (drop 1 e)) x true) (power_of (drop 1 e) x false))) ≡ Of y → Power e
     go true b c f g h k =
         record { p = 0; q = 0; says = λ (z : Exact) (l : z.up ≡ 0). rw f (ap₂ (λ (u d : ℕ). Of (record { negative = z.negative; digits = z.digits; up = u; down = d })) l (sym (add-zero z.down))) }
-    go false true c f g h k = not-of y k
+    go false true c f g h k = not_of y k
     go false false true f g h k =
-        record { p = 0; q = numeral (take (leading (drop 1 (drop 1 e))) (drop 1 (drop 1 e))); says = λ (z : Exact) (l : z.up ≡ 0). rw (f, g, h) (power-up (drop 1 (drop 1 e)) x y z true k) }
+        record { p = 0; q = numeral (take (leading (drop 1 (drop 1 e))) (drop 1 (drop 1 e))); says = λ (z : Exact) (l : z.up ≡ 0). rw (f, g, h) (power_up (drop 1 (drop 1 e)) x y z true k) }
     go false false false f g h k =
-        record { p = numeral (take (leading (drop 1 e)) (drop 1 e)); q = 0; says = λ (z : Exact) (l : z.up ≡ 0). rw (f, g, h) (power-up (drop 1 e) x y z false k ∙ ap (λ (d : ℕ). Of (record { negative = z.negative; digits = z.digits; up = numeral (take (leading (drop 1 e)) (drop 1 e)); down = d })) (sym (add-zero z.down))) }
+        record { p = numeral (take (leading (drop 1 e)) (drop 1 e)); q = 0; says = λ (z : Exact) (l : z.up ≡ 0). rw (f, g, h) (power_up (drop 1 e) x y z false k ∙ ap (λ (d : ℕ). Of (record { negative = z.negative; digits = z.digits; up = numeral (take (leading (drop 1 e)) (drop 1 e)); down = d })) (sym (add-zero z.down))) }
 
 -- ---- digits and what follows them
 
 -- the values that are read, given the power p, q that follows the digits
 by_value : (negative : Bool) (n up down : ℕ) (e : List ℕ) (w : Power e) → n < 1000000
-    → decimalValue negative n up down e ≡ Of (record { negative = negative; digits = n; up = w.p + up; down = 0 + w.q + down })
-unfolding decimalValue movedOf pick
+    → decimal_value negative n up down e ≡ Of (record { negative = negative; digits = n; up = w.p + up; down = 0 + w.q + down })
+unfolding decimal_value moved_of pick
 by_value negative n up down e w h = rw (lt-leb 1000000 n h, w.says (whole negative n) refl)
 
-spelled : (negative : Bool) (w f e : List ℕ) (x : Exact) → length w ≤ 6 → length f ≤ 6 → numeralFrom (numeral w) f < 1000000
-    → exponentOf e (record { negative = negative; digits = numeralFrom (numeral w) f; up = 0; down = length f }) ≡ Of x → ReadAs x (spelledOf negative w f e)
-unfolding spelledOf pick numeralFrom
+spelled : (negative : Bool) (w f e : List ℕ) (x : Exact) → length w ≤ 6 → length f ≤ 6 → numeral_from (numeral w) f < 1000000
+    → exponent_of e (record { negative = negative; digits = numeral_from (numeral w) f; up = 0; down = length f }) ≡ Of x → ReadAs x (spelled_of negative w f e)
+unfolding spelled_of pick numeral_from
 spelled negative w f e x h i b k =
     let r = power e _ x k in
-    subst (λ (z : Exact). ReadAs z (spelledOf negative w f e)) (of-same _ x (sym (r.says _ refl) ∙ k))
+    subst (λ (z : Exact). ReadAs z (spelled_of negative w f e)) (of_same _ x (sym (r.says _ refl) ∙ k))
     (rw (lt-leb 101 (length w) (omega arith), lt-leb 101 (length f) (omega arith)) (go (eqb (significant f) 0) refl r))
   where
     go : (t : Bool) → eqb (significant f) 0 ≡ t → (r : Power e)
-        → ReadAs (powered r.p r.q (record { negative = negative; digits = numeralFrom (numeral w) f; up = 0; down = length f }))
-        (pick t (decimalValue negative (numeral (take (significant w) w)) (length w - significant w) 0 e) (decimalValue negative (numeral (w ++ take (significant f) f)) 0 (significant f) e))
+        → ReadAs (powered r.p r.q (record { negative = negative; digits = numeral_from (numeral w) f; up = 0; down = length f }))
+        (pick t (decimal_value negative (numeral (take (significant w) w)) (length w - significant w) 0 e) (decimal_value negative (numeral (w ++ take (significant f) f)) 0 (significant f) e))
     go true t r =
         let z : significant f ≡ 0 = eqb-true (significant f) 0 t in
         let d = numeral (take (significant w) w) in
         let u = length w - significant w in
         let l : length f - 0 ≡ length f = omega arith in
-        let n : numeralFrom (numeral w) f ≡ d * 10 ^ u * 10 ^ length f = (rw (z, l) at (trimmed f (numeral w))) ∙ ap (λ (v : ℕ). v * 10 ^ length f) (trimmed w 0) in
-        let small : d < 1000000 = omega (arith, le-mul_of_pos_right d (ten-pos u), le-mul_of_pos_right (d * 10 ^ u) (ten-pos (length f)), n) in
+        let n : numeral_from (numeral w) f ≡ d * 10 ^ u * 10 ^ length f = (rw (z, l) at (trimmed f (numeral w))) ∙ ap (λ (v : ℕ). v * 10 ^ length f) (trimmed w 0) in
+        let small : d < 1000000 = omega (arith, le-mul_of_pos_right d (ten_pos u), le-mul_of_pos_right (d * 10 ^ u) (ten_pos (length f)), n) in
         let q : r.q ≡ 0 + r.q + 0 = omega arith in
         rw (by_value negative d u 0 e r small)
-        (record { sign = refl; size = whole-size d r.p u (length f) r.q ∙ ap₂ (λ (a b : ℕ). a * 10 ^ r.p * 10 ^ b) (sym n) q })
+        (record { sign = refl; size = whole_size d r.p u (length f) r.q ∙ ap₂ (λ (a b : ℕ). a * 10 ^ r.p * 10 ^ b) (sym n) q })
     go false t r =
         let k = significant f in
         let d = numeral (w ++ take k f) in
         let v = length f - k in
-        let n : numeralFrom (numeral w) f ≡ d * 10 ^ v = trimmed f (numeral w) ∙ ap (λ (a : ℕ). a * 10 ^ v) (sym (spells-on w (take k f) 0)) in
-        let small : d < 1000000 = omega (arith, le-mul_of_pos_right d (ten-pos v), n) in
+        let n : numeral_from (numeral w) f ≡ d * 10 ^ v = trimmed f (numeral w) ∙ ap (λ (a : ℕ). a * 10 ^ v) (sym (spells_on w (take k f) 0)) in
+        let small : d < 1000000 = omega (arith, le-mul_of_pos_right d (ten_pos v), n) in
         let p : r.p + 0 ≡ r.p = omega arith in
-        let l : length f + r.q ≡ v + k + r.q = omega (arith, significant-le f) in
+        let l : length f + r.q ≡ v + k + r.q = omega (arith, significant_le f) in
         let q : r.q + k ≡ 0 + r.q + k = omega arith in
         rw (by_value negative d 0 k e r small)
-        (record { sign = refl; size = ap₂ (λ (a b : ℕ). d * 10 ^ a * 10 ^ b) p l ∙ point-size d r.p v k r.q ∙ ap₂ (λ (a b : ℕ). a * 10 ^ r.p * 10 ^ b) (sym n) q })
+        (record { sign = refl; size = ap₂ (λ (a b : ℕ). d * 10 ^ a * 10 ^ b) p l ∙ point_size d r.p v k r.q ∙ ap₂ (λ (a b : ℕ). a * 10 ^ r.p * 10 ^ b) (sym n) q })
 
 -- ---- the whole text
 
-pointed : (negative : Bool) (s u : List ℕ) (n : ℕ) (x : Exact) → n ≤ leading s → form.fractionOf u (whole negative (numeral (take n s))) n ≡ Of x
-    → ReadAs x (pointedOf negative (take n s) u)
-unfolding form.fractionOf pointedOf pick
+pointed : (negative : Bool) (s u : List ℕ) (n : ℕ) (x : Exact) → n ≤ leading s → form.fraction_of u (whole negative (numeral (take n s))) n ≡ Of x
+    → ReadAs x (pointed_of negative (take n s) u)
+unfolding form.fraction_of pointed_of pick
 pointed negative s u n x h = go (ltb k 1) (leb 7 (n + k)) refl
   where
     k : ℕ
@@ -196,21 +196,21 @@ pointed negative s u n x h = go (ltb k 1) (leb 7 (n + k)) refl
     w = take n s
 
     go : (a b : Bool) → leb 7 (n + k) ≡ b
-        → pick a NoForm (pick b NoForm (exponentOf (drop k u) (record { negative = negative; digits = numeral w * 10 ^ k + numeral (take k u); up = 0; down = k }))) ≡ Of x
-        → ReadAs x (pick a NoForm (spelledOf negative w (take k u) (drop k u)))
-    go true b g f = not-of x f
-    go false true g f = not-of x f
+        → pick a NoForm (pick b NoForm (exponent_of (drop k u) (record { negative = negative; digits = numeral w * 10 ^ k + numeral (take k u); up = 0; down = k }))) ≡ Of x
+        → ReadAs x (pick a NoForm (spelled_of negative w (take k u) (drop k u)))
+    go true b g f = not_of x f
+    go false true g f = not_of x f
     go false false g f =
         let l : length (take k u) ≡ k = simp length-take (omega (arith, leading_le u)) in
         let m = leb-false 7 (n + k) g in
-        let e : numeralFrom (numeral w) (take k u) ≡ numeral w * 10 ^ k + numeral (take k u) = rw l at (shifted (take k u) (numeral w)) in
-        let a : (numeral w + 1) * 10 ^ k ≤ 10 ^ n * 10 ^ k = mul-le-mul_right (10 ^ k) (omega (arith, numeral-front s 0 n h)) in
-        let c = numeral-front u (numeral w) k (omega arith) in
-        spelled negative w (take k u) (drop k u) x (simp length-take (omega arith)) (omega arith) (omega (arith, a, c, ten-add n k, ten-max (n + k) 6 (omega arith)))
+        let e : numeral_from (numeral w) (take k u) ≡ numeral w * 10 ^ k + numeral (take k u) = rw l at (shifted (take k u) (numeral w)) in
+        let a : (numeral w + 1) * 10 ^ k ≤ 10 ^ n * 10 ^ k = mul-le-mul_right (10 ^ k) (omega (arith, numeral_front s 0 n h)) in
+        let c = numeral_front u (numeral w) k (omega arith) in
+        spelled negative w (take k u) (drop k u) x (simp length-take (omega arith)) (omega arith) (omega (arith, a, c, ten_add n k, ten_max (n + k) 6 (omega arith)))
         (rw (e, l) f)
 
-unsigned : (negative : Bool) (s : List ℕ) (x : Exact) → form.unsignedOf s negative ≡ Of x → ReadAs x (unsignedOf negative s)
-unfolding form.unsignedOf unsignedOf pick numeralFrom
+unsigned : (negative : Bool) (s : List ℕ) (x : Exact) → form.unsigned_of s negative ≡ Of x → ReadAs x (unsigned_of negative s)
+unfolding form.unsigned_of unsigned_of pick numeral_from
 unsigned negative s x = go (ltb n 1) (leb 7 n) (starts_with 46 (drop n s)) refl
   where
     n : ℕ
@@ -220,21 +220,21 @@ unsigned negative s x = go (ltb n 1) (leb 7 n) (starts_with 46 (drop n s)) refl
     w = take n s
 
     go : (a b c : Bool) → leb 7 n ≡ b
-        → pick a NoForm (pick b NoForm (pick c (form.fractionOf (drop 1 (drop n s)) (whole negative (numeral w)) n) (exponentOf (drop n s) (whole negative (numeral w))))) ≡ Of x
-        → ReadAs x (pick a NoForm (pick c (pointedOf negative w (drop 1 (drop n s))) (spelledOf negative w [] (drop n s))))
-    go true b c g f = not-of x f
-    go false true c g f = not-of x f
+        → pick a NoForm (pick b NoForm (pick c (form.fraction_of (drop 1 (drop n s)) (whole negative (numeral w)) n) (exponent_of (drop n s) (whole negative (numeral w))))) ≡ Of x
+        → ReadAs x (pick a NoForm (pick c (pointed_of negative w (drop 1 (drop n s))) (spelled_of negative w [] (drop n s))))
+    go true b c g f = not_of x f
+    go false true c g f = not_of x f
     go false false true g f = pointed negative s (drop 1 (drop n s)) n x (omega arith) f
     go false false false g f =
         let m = leb-false 7 n g in
         spelled negative w [] (drop n s) x (simp length-take (omega arith)) (omega arith)
-        (omega (arith, numeral-front s 0 n (omega arith), ten-max n 6 (omega arith))) f
+        (omega (arith, numeral_front s 0 n (omega arith), ten_max n 6 (omega arith))) f
 
 -- each text of document 01's form is read, as its value
-pub as-the-form : AsTheForm
-unfolding scanOf decimalOf pick
-as-the-form s x = go (starts_with 45 s)
+pub as_the_form : AsTheForm
+unfolding scan_of decimal_of pick
+as_the_form s x = go (starts_with 45 s)
   where
-    go : (t : Bool) → pick t (form.unsignedOf (drop 1 s) true) (form.unsignedOf s false) ≡ Of x → ReadAs x (pick t (unsignedOf true (drop 1 s)) (unsignedOf false s))
+    go : (t : Bool) → pick t (form.unsigned_of (drop 1 s) true) (form.unsigned_of s false) ≡ Of x → ReadAs x (pick t (unsigned_of true (drop 1 s)) (unsigned_of false s))
     go true f = unsigned true (drop 1 s) x f
     go false f = unsigned false s x f

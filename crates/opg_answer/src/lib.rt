@@ -2,7 +2,7 @@
 ghost use Rattle.std.specs.Prelude.{◌≡◌, length};
 ghost use Rattle.buffer.specs.Answer.{Sent};
 ghost use Rattle.opg_answer.specs.Reply.{bits_of, unit_of, answer_of, after_of};
-ghost use Rattle.opg_answer.specs.Inner.{replyBytes, sentError, sentReply, replied};
+ghost use Rattle.opg_answer.specs.Inner.{reply_bytes, sent_error, sent_reply, replied};
 
 use opg_commands::Request;
 use opg_gauge::{Gauge, Pressure};
@@ -26,7 +26,7 @@ fn bits(p: Pressure) -> u32
 
 // Writes the error reply to a request with this CMD byte.
 fn send_error(out: &mut [u8], cmd: u8, e: u8) -> buffer::Written
-    ensures { Sent out.old (sentError (length out.old) cmd e) out.new result }
+    ensures { Sent out.old (sent_error (length out.old) cmd e) out.new result }
 {
     let bytes = [e];
     if cmd == 3 {
@@ -47,7 +47,7 @@ fn unit_for(g: Gauge, u: u8) -> u8
 
 // The data of an accepted reply, filled up with zeros.
 fn reply_bytes(g: Gauge, r: Request) -> [u8; 4]
-    ensures { result ≡ replyBytes g r }
+    ensures { result ≡ reply_bytes g r }
 {
     let p = g.pressure;
     match r {
@@ -68,7 +68,7 @@ fn reply_bytes(g: Gauge, r: Request) -> [u8; 4]
 }
 
 fn send_reply(out: &mut [u8], g: Gauge, r: Request) -> buffer::Written
-    ensures { Sent out.old (sentReply (length out.old) g r) out.new result }
+    ensures { Sent out.old (sent_reply (length out.old) g r) out.new result }
 {
     let bytes = reply_bytes(g, r);
     let n = opg_commands::reply_count(r);

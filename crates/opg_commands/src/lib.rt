@@ -1,7 +1,7 @@
 // The OPG's commands (document 01, "OPG frames"): typed requests, the settings with their factory values and limits, and what a request
 // changes.
 ghost use Rattle.std.specs.Prelude.{◌≡◌};
-ghost use Rattle.opg_commands.specs.Request.{requestPid, replyCmd, replyCount, outsideOf};
+ghost use Rattle.opg_commands.specs.Request.{request_pid, reply_cmd, reply_count, outside_of};
 ghost use Rattle.opg_commands.specs.Settings.{entered};
 
 // A request: one case for each PID and access, with its data. Residual gas detection switched off has neither spectra nor gas.
@@ -75,7 +75,7 @@ impl Settings {
 
 // Whether a value of the request lies outside its limits.
 pub fn is_outside(r: Request) -> bool
-    ensures { result ≡ outsideOf r }
+    ensures { result ≡ outside_of r }
 {
     match r {
         Request::ReadPressure(u) => !buffer::is_within(u, 0, Settings::UNIT_MAX),
@@ -88,7 +88,7 @@ pub fn is_outside(r: Request) -> bool
 
 // The PID of a request and of its reply.
 pub fn request_pid(r: Request) -> u16
-    ensures { result ≡ requestPid r }
+    ensures { result ≡ request_pid r }
 {
     match r {
         Request::ReadPressure(_) => 14000,
@@ -101,7 +101,7 @@ pub fn request_pid(r: Request) -> u16
 
 // The CMD of the reply.
 pub fn reply_cmd(r: Request) -> u8
-    ensures { result ≡ replyCmd r }
+    ensures { result ≡ reply_cmd r }
 {
     match r {
         Request::ReadPressure(_) => 2,
@@ -114,7 +114,7 @@ pub fn reply_cmd(r: Request) -> u8
 
 // How many data bytes an accepted reply has.
 pub fn reply_count(r: Request) -> usize
-    ensures { result ≡ replyCount r }
+    ensures { result ≡ reply_count r }
 {
     match r {
         Request::ReadPressure(_) => 4,

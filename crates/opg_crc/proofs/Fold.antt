@@ -8,7 +8,7 @@ use native.Mathlib.Omega.{arith}
 use lib.Bits.{bit_xor, xor_mod, xor_lt}
 use lib.Dec.{T, eqb, eqb→eq}
 use Rattle.opg_crc.specs.Inner.{bit_of, bits_of, byte_of}
-use Rattle.opg_crc.proofs.Laws.{eight-steps}
+use Rattle.opg_crc.proofs.Laws.{eight_steps}
 
 -- which of eight steps subtract the divisor
 abbrev subtracted : ℕ → ℕ
@@ -52,13 +52,13 @@ computed : T (every right 256)
 unfolding right bits_of bit_of
 computed = tt
 
-low-digits : (x : ℕ) → x < 256 → moved (subtracted x) ≡ bits_of 8 x
+low_digits : (x : ℕ) → x < 256 → moved (subtracted x) ≡ bits_of 8 x
 unfolding right
-low-digits x h = eqb→eq (moved (subtracted x)) (bits_of 8 x) (passes right 256 computed x h)
+low_digits x h = eqb→eq (moved (subtracted x)) (bits_of 8 x) (passes right 256 computed x h)
 
 -- only the low eight digits count
-low-alone : (x : ℕ) → subtracted x ≡ subtracted (x % 256)
-low-alone x =
+low_alone : (x : ℕ) → subtracted x ≡ subtracted (x % 256)
+low_alone x =
     xor_mod x (x * 16) 8 ∙ ap₂ (λ (m n : ℕ). bit_xor m n) same times ∙ sym (xor_mod (x % 256) (x % 256 * 16) 8)
   where
     same : x % 2 ^ 8 ≡ x % 256 % 2 ^ 8
@@ -68,9 +68,9 @@ low-alone x =
     times = omega arith
 
 -- a byte's eight steps
-pub byte-is : (c b : ℕ) → c < 65536 → b < 256 → bit_xor (moved (subtracted (bit_xor b c))) (bit_xor b c / 256) ≡ byte_of c b
+pub byte_is : (c b : ℕ) → c < 65536 → b < 256 → bit_xor (moved (subtracted (bit_xor b c))) (bit_xor b c / 256) ≡ byte_of c b
 unfolding byte_of
-byte-is c b h k =
+byte_is c b h k =
     let x = bit_xor b c in
-    ap (λ (n : ℕ). bit_xor n (x / 256)) (ap moved (low-alone x) ∙ low-digits (x % 256) (omega arith))
-    ∙ eight-steps x (xor_lt 16 b c (omega arith) (omega arith))
+    ap (λ (n : ℕ). bit_xor n (x / 256)) (ap moved (low_alone x) ∙ low_digits (x % 256) (omega arith))
+    ∙ eight_steps x (xor_lt 16 b c (omega arith) (omega arith))

@@ -37,9 +37,9 @@ message [] = []
 message (b ∷ s) = digits 8 b ++ message s
 
 -- the remainder of the bytes followed by sixteen zeros, with the number c added to their first sixteen digits
-unfoldable pub crcFrom : ℕ → List ℕ → ℕ
-crcFrom c s = number (remainder (length s * 8) (plus (message s ++ replicate 16 false) (digits 16 c)))
+unfoldable pub crc_from : ℕ → List ℕ → ℕ
+crc_from c s = number (remainder (length s * 8) (plus (message s ++ replicate 16 false) (digits 16 c)))
 
 -- "initial 0xFFFF"
-unfoldable pub crcOf : List ℕ → ℕ
-crcOf s = crcFrom 0xffff s
+unfoldable pub crc_of : List ℕ → ℕ
+crc_of s = crc_from 0xffff s

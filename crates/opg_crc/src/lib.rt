@@ -1,6 +1,6 @@
 // The CRC of OPG frames (document 01, "OPG frames").
 ghost use Rattle.std.specs.Prelude.{◌≡◌, ◌<◌};
-ghost use Rattle.opg_crc.specs.Crc.{crcOf};
+ghost use Rattle.opg_crc.specs.Crc.{crc_of};
 ghost use Rattle.opg_crc.specs.Inner.{byte_of};
 
 // The eight steps of a byte at once. y has a 1 for each step that subtracts the divisor, and the divisor has three powers below its leading one:
@@ -16,7 +16,7 @@ fn byte(c: u32, b: u8) -> u32
 
 // The CRC of any bytes.
 pub fn crc(s: &[u8]) -> u16
-    ensures { result ≡ crcOf s.now }
+    ensures { result ≡ crc_of s.now }
 {
     let mut c: u32 = 0xffff;
     let mut i: usize = 0;

@@ -8,22 +8,22 @@ use lib.Dec.{leb, ltb, eqb}
 use lib.ListN.{length, drop}
 use Rattle.buffer.specs.First.{Row, ◌⇒◌, first, pick}
 use Rattle.buffer.specs.Byte.{within}
-use Rattle.buffer.proofs.Laws.{within-true}
-use Rattle.opg_frames.specs.Frame.{cmdOf, foreign, wrongCrc, wrongVersion, acknowledges, indexed}
-use Rattle.opg_commands.specs.Request.{outsideOf}
-use Rattle.opg_request_reader.specs.Asked.{wrongShape, unknownCmd, unknownPid, lacksAccess, wrongCount, refusals, meaning, wrongMode, outside, asked_of, askedNumber}
+use Rattle.buffer.proofs.Laws.{within_true}
+use Rattle.opg_frames.specs.Frame.{cmd_of, foreign, wrong_crc, wrong_version, acknowledges, indexed}
+use Rattle.opg_commands.specs.Request.{outside_of}
+use Rattle.opg_request_reader.specs.Asked.{wrong_shape, unknown_cmd, unknown_pid, lacks_access, wrong_count, refusals, meaning, wrong_mode, outside, asked_of, asked_number}
 use Rattle.opg_commands.specs.declared.Request.{Request}
 use Rattle.opg_commands.specs.declared.Request.TheVariants.{ReadPressure, ReadUnit, WriteUnit, DetectionOff, DetectionOn}
 use Rattle.opg_request_reader.specs.declared.Asked.{Asked}
 use Rattle.opg_request_reader.specs.declared.Asked.TheVariants.{Silent, Error, Accepted}
-use Rattle.opg_commands.specs.Limits.{unitLow, unitHigh, modeHigh, gasHigh}
+use Rattle.opg_commands.specs.Limits.{unit_low, unit_high, mode_high, gas_high}
 use Rattle.opg_commands.specs.Settings.{entered}
 use Rattle.opg_gauge.specs.Judged.{unavailable, judgement, after}
 use Rattle.opg_gauge.specs.declared.Gauge.{Gauge}
 use Rattle.opg_commands.specs.declared.Settings.{Settings}
-use Rattle.opg_frame_writer.proofs.Laws.{length-frame}
-use Rattle.opg_answer.specs.Reply.{replyData, replyTo, answer_of, after_of}
-use Rattle.opg_facts.specs.Accepted.{isAccepted, none, silentNumber, sound}
+use Rattle.opg_frame_writer.proofs.Laws.{length_frame}
+use Rattle.opg_answer.specs.Reply.{reply_data, reply_to, answer_of, after_of}
+use Rattle.opg_facts.specs.Accepted.{is_accepted, none, silent_number, sound}
 use Rattle.opg_facts.specs.Theorems.{AskedExactly, NumberIs, AcceptedExactly, SilentExactly, RefusedKeeps, PressureStays, FactorySound, StaysSound}
 
 -- ---- rows
@@ -44,30 +44,30 @@ gives {A} P ((t ⇒ a) ∷ rows) d h k = go t (λ (f : none rows ≡ true → P 
     go false rest k = rest k
 
 -- rows of refusals: accepted exactly if no test holds
-accepted-rows : (rows : List (Row Asked)) (r : Request) → Each (λ (a : Asked). isAccepted a ≡ false) rows → isAccepted (first rows (Accepted r)) ≡ none rows
-unfolding pick none isAccepted
-accepted-rows [] r h = refl
-accepted-rows ((t ⇒ a) ∷ rows) r h = go t (accepted-rows rows r h.1)
+accepted_rows : (rows : List (Row Asked)) (r : Request) → Each (λ (a : Asked). is_accepted a ≡ false) rows → is_accepted (first rows (Accepted r)) ≡ none rows
+unfolding pick none is_accepted
+accepted_rows [] r h = refl
+accepted_rows ((t ⇒ a) ∷ rows) r h = go t (accepted_rows rows r h.1)
   where
-    go : (b : Bool) → isAccepted (first rows (Accepted r)) ≡ none rows → isAccepted (pick b a (first rows (Accepted r))) ≡ (not b && none rows)
+    go : (b : Bool) → is_accepted (first rows (Accepted r)) ≡ none rows → is_accepted (pick b a (first rows (Accepted r))) ≡ (not b && none rows)
     go true e = h.0
     go false e = e
 
 -- ---- the request reader, and the gauge
 
 -- bytes are a request exactly if none of the refusals applies
-pub asked-exactly : AskedExactly
-unfolding asked_of isAccepted
-asked-exactly s = accepted-rows (refusals s) (meaning s) (refl, (refl, (refl, (refl, (refl, (refl, (refl, (refl, (refl, (refl, (refl, refl)))))))))))
+pub asked_exactly : AskedExactly
+unfolding asked_of is_accepted
+asked_exactly s = accepted_rows (refusals s) (meaning s) (refl, (refl, (refl, (refl, (refl, (refl, (refl, (refl, (refl, (refl, (refl, refl)))))))))))
 
 -- the gauge's rows: 21, the refusals, 1000
 abbrev pub rows_of : ℕ → Gauge → List ℕ → List (Row Asked)
 rows_of room g s = (ltb room 32 ⇒ Silent 21 ∷ []) ++ refusals s ++ (unavailable g (meaning s) ⇒ Error 0 ∷ [])
 
 -- the gauge accepts exactly if none of its rows applies
-pub accepts-exactly : (room : ℕ) (g : Gauge) (s : List ℕ) → isAccepted (judgement room g s) ≡ none (rows_of room g s)
-unfolding judgement isAccepted
-accepts-exactly room g s = accepted-rows (rows_of room g s) (meaning s) (refl, (refl, (refl, (refl, (refl, (refl, (refl, (refl, (refl, (refl, (refl, (refl, (refl, refl)))))))))))))
+pub accepts_exactly : (room : ℕ) (g : Gauge) (s : List ℕ) → is_accepted (judgement room g s) ≡ none (rows_of room g s)
+unfolding judgement is_accepted
+accepts_exactly room g s = accepted_rows (rows_of room g s) (meaning s) (refl, (refl, (refl, (refl, (refl, (refl, (refl, (refl, (refl, (refl, (refl, (refl, (refl, refl)))))))))))))
 
 -- what the gauge judged has P, if every refusal has it, and the request where no row applies
 pub judged : (P : Asked → Type 0) (room : ℕ) (g : Gauge) (s : List ℕ) → ((k : ℕ) → P (Silent k)) → ((e : ℕ) → P (Error e))
@@ -79,10 +79,10 @@ judged P room g s silent error accepted =
 
 -- the answer's number is document 01's number of what the gauge judged
 pub number_is : NumberIs
-unfolding answer_of replyTo askedNumber
-number_is room g s = go (cmdOf s) (judgement room g s)
+unfolding answer_of reply_to asked_number
+number_is room g s = go (cmd_of s) (judgement room g s)
   where
-    go : (cmd : ℕ) (a : Asked) → (replyTo g cmd a).number ≡ askedNumber a
+    go : (cmd : ℕ) (a : Asked) → (reply_to g cmd a).number ≡ asked_number a
     go cmd (Silent k) = refl
     go cmd (Error e) = refl
     go cmd (Accepted r) = refl
@@ -110,70 +110,70 @@ grouped false false false false false false false false false false false false 
 
 -- no row gives the number 20
 taken : (a : Asked) → Type 0
-taken a = eqb (askedNumber a) 20 ≡ isAccepted a
+taken a = eqb (asked_number a) 20 ≡ is_accepted a
 
-number-20 : (room : ℕ) (g : Gauge) (s : List ℕ) → taken (judgement room g s)
-unfolding taken judgement askedNumber isAccepted
-number-20 room g s =
+number_20 : (room : ℕ) (g : Gauge) (s : List ℕ) → taken (judgement room g s)
+unfolding taken judgement asked_number is_accepted
+number_20 room g s =
     gives taken (rows_of room g s) (Accepted (meaning s)) (refl, (refl, (refl, (refl, (refl, (refl, (refl, (refl, (refl, (refl, (refl, (refl, (refl, refl))))))))))))) (λ _. refl)
 
 -- a request is accepted exactly if it is answered 20
-pub accepted-number : (room : ℕ) (g : Gauge) (s : List ℕ) → eqb (answer_of room g s).number 20 ≡ isAccepted (judgement room g s)
+pub accepted_number : (room : ℕ) (g : Gauge) (s : List ℕ) → eqb (answer_of room g s).number 20 ≡ is_accepted (judgement room g s)
 unfolding taken
-accepted-number room g s = ap (λ (n : ℕ). eqb n 20) (number_is room g s) ∙ number-20 room g s
+accepted_number room g s = ap (λ (n : ℕ). eqb n 20) (number_is room g s) ∙ number_20 room g s
 
 -- the number is 20 exactly if these conditions hold, in document 01's order
-pub accepted-exactly : AcceptedExactly
+pub accepted_exactly : AcceptedExactly
 unfolding none
-accepted-exactly room g s =
-    accepted-number room g s
-    ∙ accepts-exactly room g s
+accepted_exactly room g s =
+    accepted_number room g s
+    ∙ accepts_exactly room g s
     ∙ grouped
-    (ltb room 32) (wrongShape s) (foreign 0 s) (wrongCrc s) (wrongVersion s) (acknowledges s) (unknownCmd s) (unknownPid s) (lacksAccess s) (indexed s) (wrongCount s) (outside s)
+    (ltb room 32) (wrong_shape s) (foreign 0 s) (wrong_crc s) (wrong_version s) (acknowledges s) (unknown_cmd s) (unknown_pid s) (lacks_access s) (indexed s) (wrong_count s) (outside s)
     (unavailable g (meaning s))
 
 -- ---- the silent ones
 
 -- an answer is empty exactly if its number is 21, 22 or 23
 Quiet : Gauge → ℕ → Asked → Type 0
-Quiet g cmd a = eqb (length (replyTo g cmd a).reply) 0 ≡ silentNumber (replyTo g cmd a).number
+Quiet g cmd a = eqb (length (reply_to g cmd a).reply) 0 ≡ silent_number (reply_to g cmd a).number
 
-error-loud : (g : Gauge) (cmd e : ℕ) → silentNumber (1000 + e) ≡ false → Quiet g cmd (Error e)
-unfolding Quiet replyTo
-error-loud g cmd e h = rw (length-frame, h)
+error_loud : (g : Gauge) (cmd e : ℕ) → silent_number (1000 + e) ≡ false → Quiet g cmd (Error e)
+unfolding Quiet reply_to
+error_loud g cmd e h = rw (length_frame, h)
 
-accepted-loud : (g : Gauge) (cmd : ℕ) (r : Request) → Quiet g cmd (Accepted r)
-unfolding Quiet replyTo replyData within
-accepted-loud g cmd (ReadPressure u) = rw length-frame
-accepted-loud g cmd ReadUnit = rw length-frame
-accepted-loud g cmd (WriteUnit u) = rw length-frame
-accepted-loud g cmd DetectionOff = rw length-frame
-accepted-loud g cmd (DetectionOn n gas) = rw length-frame
+accepted_loud : (g : Gauge) (cmd : ℕ) (r : Request) → Quiet g cmd (Accepted r)
+unfolding Quiet reply_to reply_data within
+accepted_loud g cmd (ReadPressure u) = rw length_frame
+accepted_loud g cmd ReadUnit = rw length_frame
+accepted_loud g cmd (WriteUnit u) = rw length_frame
+accepted_loud g cmd DetectionOff = rw length_frame
+accepted_loud g cmd (DetectionOn n gas) = rw length_frame
 
-pub silent-exactly : SilentExactly
-unfolding Quiet answer_of judgement replyTo within
-silent-exactly room g s =
-    let l = error-loud g (cmdOf s) in
-    gives (Quiet g (cmdOf s)) (rows_of room g s) (Accepted (meaning s))
+pub silent_exactly : SilentExactly
+unfolding Quiet answer_of judgement reply_to within
+silent_exactly room g s =
+    let l = error_loud g (cmd_of s) in
+    gives (Quiet g (cmd_of s)) (rows_of room g s) (Accepted (meaning s))
     (refl, (refl, (refl, (l 100 refl, (l 104 refl, (l 102 refl, (l 101 refl, (l 3 refl, (l 1 refl, (l 2 refl, (l 4 refl, (l 2 refl, (l 0 refl, refl)))))))))))))
-    (λ _. accepted-loud g (cmdOf s) (meaning s))
+    (λ _. accepted_loud g (cmd_of s) (meaning s))
 
 -- ---- what a request changes
 
 -- a refused request changes nothing
-pub refused-keeps : RefusedKeeps
-unfolding after_of after isAccepted
-refused-keeps room g s = go (judgement room g s)
+pub refused_keeps : RefusedKeeps
+unfolding after_of after is_accepted
+refused_keeps room g s = go (judgement room g s)
   where
-    go : (a : Asked) → isAccepted a ≡ false → after g a ≡ g
+    go : (a : Asked) → is_accepted a ≡ false → after g a ≡ g
     go (Silent k) e = refl
     go (Error k) e = refl
     go (Accepted r) e = absurd (true≢false e)
 
 -- no request changes the pressure
-pub pressure-stays : PressureStays
+pub pressure_stays : PressureStays
 unfolding after_of after
-pressure-stays room g s = go (judgement room g s)
+pressure_stays room g s = go (judgement room g s)
   where
     go : (a : Asked) → (after g a).pressure ≡ g.pressure
     go (Silent k) = refl
@@ -182,67 +182,67 @@ pressure-stays room g s = go (judgement room g s)
 
 -- ---- limits
 
-pub factory-sound : FactorySound
+pub factory_sound : FactorySound
 unfolding sound within
-factory-sound = refl
+factory_sound = refl
 
 -- a request without a value outside keeps them there
 module _ (s : Settings) (h : sound s ≡ true) where
-  unit-sound : within unitLow unitHigh s.unit ≡ true
+  unit_sound : within unit_low unit_high s.unit ≡ true
   unfolding sound
-  unit-sound = ((and-eq-true_iff (within unitLow unitHigh s.unit) (leb s.mode modeHigh && leb s.gas gasHigh)).0 h).0
+  unit_sound = ((and-eq-true_iff (within unit_low unit_high s.unit) (leb s.mode mode_high && leb s.gas gas_high)).0 h).0
 
-  rest-sound : (leb s.mode modeHigh && leb s.gas gasHigh) ≡ true
+  rest_sound : (leb s.mode mode_high && leb s.gas gas_high) ≡ true
   unfolding sound
-  rest-sound = ((and-eq-true_iff (within unitLow unitHigh s.unit) (leb s.mode modeHigh && leb s.gas gasHigh)).0 h).1
+  rest_sound = ((and-eq-true_iff (within unit_low unit_high s.unit) (leb s.mode mode_high && leb s.gas gas_high)).0 h).1
 
-  entered-sound : (r : Request) → outsideOf r ≡ false → sound (entered s r) ≡ true
-  unfolding sound entered outsideOf
-  entered-sound (ReadPressure u) o = h
-  entered-sound ReadUnit o = h
-  entered-sound (WriteUnit u) o = rw (not-false (within unitLow unitHigh u) o) rest-sound
-  entered-sound DetectionOff o = rw unit-sound ((and-eq-true_iff (leb s.mode modeHigh) (leb s.gas gasHigh)).0 rest-sound).1
-  entered-sound (DetectionOn n gas) o = rw unit-sound (le-leb gas gasHigh (within-true 0 gasHigh gas (not-false (within 0 gasHigh gas) o)).1)
+  entered_sound : (r : Request) → outside_of r ≡ false → sound (entered s r) ≡ true
+  unfolding sound entered outside_of
+  entered_sound (ReadPressure u) o = h
+  entered_sound ReadUnit o = h
+  entered_sound (WriteUnit u) o = rw (not-false (within unit_low unit_high u) o) rest_sound
+  entered_sound DetectionOff o = rw unit_sound ((and-eq-true_iff (leb s.mode mode_high) (leb s.gas gas_high)).0 rest_sound).1
+  entered_sound (DetectionOn n gas) o = rw unit_sound (le-leb gas gas_high (within_true 0 gas_high gas (not-false (within 0 gas_high gas) o)).1)
 
 -- where no row's test holds, none of the rows behind the first k holds
-none-drop : (k : ℕ) (rows : List (Row Asked)) → none rows ≡ true → none (drop k rows) ≡ true
+none_drop : (k : ℕ) (rows : List (Row Asked)) → none rows ≡ true → none (drop k rows) ≡ true
 unfolding none
-none-drop zero rows e = e
-none-drop (suc k) [] e = refl
-none-drop (suc k) ((t ⇒ a) ∷ rows) e = none-drop k rows ((and-eq-true_iff (not t) (none rows)).0 e).1
+none_drop zero rows e = e
+none_drop (suc k) [] e = refl
+none_drop (suc k) ((t ⇒ a) ∷ rows) e = none_drop k rows ((and-eq-true_iff (not t) (none rows)).0 e).1
 
-front-false : (t : Bool) (a : Asked) (rows : List (Row Asked)) → none ((t ⇒ a) ∷ rows) ≡ true → t ≡ false
+front_false : (t : Bool) (a : Asked) (rows : List (Row Asked)) → none ((t ⇒ a) ∷ rows) ≡ true → t ≡ false
 unfolding none
-front-false t a rows e = not-true t ((and-eq-true_iff (not t) (none rows)).0 e).0
+front_false t a rows e = not-true t ((and-eq-true_iff (not t) (none rows)).0 e).0
 
-or-false : (a b : Bool) → (a || b) ≡ false → (a ≡ false) × (b ≡ false)
-or-false true b e = absurd (true≢false e)
-or-false false b e = (refl, e)
+or_false : (a b : Bool) → (a || b) ≡ false → (a ≡ false) × (b ≡ false)
+or_false true b e = absurd (true≢false e)
+or_false false b e = (refl, e)
 
 -- what the tests of CMD, PID, access and value say of an accepted request
 pub record Passed (s : List ℕ) : Type 0 where
-  pub cmd : unknownCmd s ≡ false
-  pub pid : unknownPid s ≡ false
-  pub access : lacksAccess s ≡ false
-  pub mode : wrongMode s ≡ false
-  pub value : outsideOf (meaning s) ≡ false
+  pub cmd : unknown_cmd s ≡ false
+  pub pid : unknown_pid s ≡ false
+  pub access : lacks_access s ≡ false
+  pub mode : wrong_mode s ≡ false
+  pub value : outside_of (meaning s) ≡ false
 
 pub passed : (room : ℕ) (g : Gauge) (s : List ℕ) → none (rows_of room g s) ≡ true → Passed s
 unfolding outside
 passed room g s n =
     let rows = rows_of room g s in
-    let in-limits = or-false (wrongMode s) (outsideOf (meaning s)) (front-false (outside s) _ _ (none-drop 11 rows n)) in
+    let in_limits = or_false (wrong_mode s) (outside_of (meaning s)) (front_false (outside s) _ _ (none_drop 11 rows n)) in
     record {
-      cmd = front-false (unknownCmd s) _ _ (none-drop 6 rows n);
-      pid = front-false (unknownPid s) _ _ (none-drop 7 rows n);
-      access = front-false (lacksAccess s) _ _ (none-drop 8 rows n);
-      mode = in-limits.0;
-      value = in-limits.1;
+      cmd = front_false (unknown_cmd s) _ _ (none_drop 6 rows n);
+      pid = front_false (unknown_pid s) _ _ (none_drop 7 rows n);
+      access = front_false (lacks_access s) _ _ (none_drop 8 rows n);
+      mode = in_limits.0;
+      value = in_limits.1;
     }
 
 -- settings stay within their limits, whatever is asked
-pub stays-sound : StaysSound
+pub stays_sound : StaysSound
 unfolding after_of after
-stays-sound room g s h =
+stays_sound room g s h =
     judged (λ (a : Asked). sound (after g a).settings ≡ true) room g s (λ _. h) (λ _. h)
-    (λ n. entered-sound g.settings h (meaning s) (passed room g s n).value)
+    (λ n. entered_sound g.settings h (meaning s) (passed room g s n).value)

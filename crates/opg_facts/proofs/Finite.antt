@@ -12,10 +12,10 @@ use lib.Ieee.Bits.{of_bits-to_bits, to_bits-of_bits}
 use lib.Ieee.Fits.{down_pos, mul-fits}
 use lib.Ieee.Order.{round_mono}
 use Rattle.buffer.proofs.Rules.{each}
-use Rattle.opg_units.specs.Units.{finite, measurable, torr, pascal, micron, product, bitsIn, nearest32}
+use Rattle.opg_units.specs.Units.{finite, measurable, torr, pascal, micron, product, bits_in, nearest32}
 use Rattle.opg_units.proofs.Factors.{factors}
-use Rattle.opg_units.proofs.Laws.{float-no-nan}
-use Rattle.opg_facts.specs.Held.{isFin}
+use Rattle.opg_units.proofs.Laws.{float_no_nan}
+use Rattle.opg_facts.specs.Held.{is_fin}
 use Rattle.opg_facts.specs.Theorems.{FiniteExactly, SentFinite, BitsKept}
 
 -- ---- signs, and finite floats
@@ -29,74 +29,74 @@ either : (b : Bool) (x y : Float) → sign_of x ≡ false → sign_of y ≡ fals
 either true x y h k = h
 either false x y h k = k
 
-odd-clear : (d q k l : ℕ) → sign_of (odd d false q k l) ≡ false
+odd_clear : (d q k l : ℕ) → sign_of (odd d false q k l) ≡ false
 unfolding sign_of odd
-odd-clear d zero k l = refl
-odd-clear d (suc q) k l = refl
+odd_clear d zero k l = refl
+odd_clear d (suc q) k l = refl
 
-round-clear : (f : Format) (num den : ℕ) → sign_of (round f false num den) ≡ false
+round_clear : (f : Format) (num den : ℕ) → sign_of (round f false num den) ≡ false
 unfolding sign_of round units
-round-clear f num den =
+round_clear f num den =
     let n = num * 2 ^ low f in
     let k = size (n / den) - prec f in
     let u = den * 2 ^ k in
     let q = nearest (n / u) (compare (n % u * 2) u) in
-    either (ltb (q * 2 ^ k) (2 ^ (low f + suc (emax f)))) (odd (suc (prec f)) false q k (low f)) (inf false) (odd-clear (suc (prec f)) q k (low f)) refl
+    either (ltb (q * 2 ^ k) (2 ^ (low f + suc (emax f)))) (odd (suc (prec f)) false q k (low f)) (inf false) (odd_clear (suc (prec f)) q k (low f)) refl
 
-fields-clear : (x t : ℕ) → sign_of (of_fields binary32 false x t) ≡ false
+fields_clear : (x t : ℕ) → sign_of (of_fields binary32 false x t) ≡ false
 unfolding sign_of of_fields
-fields-clear zero t = odd-clear 24 t 0 149
-fields-clear (suc x) t =
+fields_clear zero t = odd_clear 24 t 0 149
+fields_clear (suc x) t =
     either
     (eqb (suc x) 255)
     (cond (eqb t 0) (inf false) nan)
     (odd 24 false (8388608 + t) x 149)
     (either (eqb t 0) (inf false) nan refl refl)
-    (odd-clear 24 (8388608 + t) x 149)
+    (odd_clear 24 (8388608 + t) x 149)
 
 -- with the sign's bit clear
-bits-clear : (w : ℕ) → w < 0x80000000 → sign_of (of_bits binary32 w) ≡ false
+bits_clear : (w : ℕ) → w < 0x80000000 → sign_of (of_bits binary32 w) ≡ false
 unfolding of_bits
-bits-clear w h = rw (lt-leb 0x80000000 w h) (fields-clear (w % 2147483648 / 8388608) (w % 8388608))
+bits_clear w h = rw (lt-leb 0x80000000 w h) (fields_clear (w % 2147483648 / 8388608) (w % 8388608))
 
 -- an exponent's field that is all ones is no finite float's
-no-fin : (w : ℕ) → w / 0x800000 % 256 ≡ 255 → isFin (of_bits binary32 w) ≡ false
-unfolding of_bits of_fields isFin
-no-fin w e =
+no_fin : (w : ℕ) → w / 0x800000 % 256 ≡ 255 → is_fin (of_bits binary32 w) ≡ false
+unfolding of_bits of_fields is_fin
+no_fin w e =
     let field : w % 2147483648 / 8388608 ≡ 255 = omega arith in
     rw field (go (eqb (w % 8388608) 0))
   where
-    go : (b : Bool) → isFin (cond b (inf (leb 2147483648 w)) nan) ≡ false
+    go : (b : Bool) → is_fin (cond b (inf (leb 2147483648 w)) nan) ≡ false
     go true = refl
     go false = refl
 
-odd-fin : (d : ℕ) (s : Bool) (q k l : ℕ) → isFin (odd d s q k l) ≡ true
-unfolding isFin odd
-odd-fin d s zero k l = refl
-odd-fin d s (suc q) k l = refl
+odd_fin : (d : ℕ) (s : Bool) (q k l : ℕ) → is_fin (odd d s q k l) ≡ true
+unfolding is_fin odd
+odd_fin d s zero k l = refl
+odd_fin d s (suc q) k l = refl
 
-fields-fin : (s : Bool) (x t : ℕ) → eqb x 255 ≡ false → isFin (of_fields binary32 s x t) ≡ true
+fields_fin : (s : Bool) (x t : ℕ) → eqb x 255 ≡ false → is_fin (of_fields binary32 s x t) ≡ true
 unfolding of_fields
-fields-fin s zero t h = odd-fin 24 s t 0 149
-fields-fin s (suc x) t h = rw h (odd-fin 24 s (8388608 + t) x 149)
+fields_fin s zero t h = odd_fin 24 s t 0 149
+fields_fin s (suc x) t h = rw h (odd_fin 24 s (8388608 + t) x 149)
 
 -- the exponent's field tells exactly the bits of finite floats
-pub finite-exactly : FiniteExactly
+pub finite_exactly : FiniteExactly
 unfolding finite of_bits
-finite-exactly w = go (eqb (w / 0x800000 % 256) 255) refl
+finite_exactly w = go (eqb (w / 0x800000 % 256) 255) refl
   where
-    go : (b : Bool) → eqb (w / 0x800000 % 256) 255 ≡ b → not b ≡ isFin (of_bits binary32 w)
-    go true e = sym (no-fin w (eqb-true _ _ e))
+    go : (b : Bool) → eqb (w / 0x800000 % 256) 255 ≡ b → not b ≡ is_fin (of_bits binary32 w)
+    go true e = sym (no_fin w (eqb-true _ _ e))
     go false e =
         let field : w % 2147483648 / 8388608 ≡ w / 8388608 % 256 = omega arith in
-        sym (fields-fin (leb 2147483648 w) (w % 2147483648 / 8388608) (w % 8388608) (rw field e))
+        sym (fields_fin (leb 2147483648 w) (w % 2147483648 / 8388608) (w % 8388608) (rw field e))
 
-fin-bits : (z : Float) → T (fits binary32 z) → isFin z ≡ true → finite (to_bits binary32 z) ≡ true
+fin_bits : (z : Float) → T (fits binary32 z) → is_fin z ≡ true → finite (to_bits binary32 z) ≡ true
 unfolding finite
-fin-bits z f h = go (eqb (to_bits binary32 z / 0x800000 % 256) 255) refl
+fin_bits z f h = go (eqb (to_bits binary32 z / 0x800000 % 256) 255) refl
   where
     go : (b : Bool) → eqb (to_bits binary32 z / 0x800000 % 256) 255 ≡ b → not b ≡ true
-    go true e = absurd (true≢false (sym h ∙ ap isFin (sym (of_bits-to_bits binary32 z f)) ∙ no-fin (to_bits binary32 z) (eqb-true _ _ e)))
+    go true e = absurd (true≢false (sym h ∙ ap is_fin (sym (of_bits-to_bits binary32 z f)) ∙ no_fin (to_bits binary32 z) (eqb-true _ _ e)))
     go false e = refl
 
 -- ---- products
@@ -122,8 +122,8 @@ bounded m n e d h =
     go k = omega arith
 
 -- what lies at or below a finite float, with its sign clear, is finite
-under : (z hi : Float) → isFin hi ≡ true → sign_of z ≡ false → T (le z hi) → isFin z ≡ true
-unfolding sign_of le isFin
+under : (z hi : Float) → is_fin hi ≡ true → sign_of z ≡ false → T (le z hi) → is_fin z ≡ true
+unfolding sign_of le is_fin
 under nan hi f s h = absurd h
 under (inf true) hi f s h = absurd (true≢false s)
 under (inf false) nan f s h = absurd h
@@ -132,59 +132,59 @@ under (inf false) (fin t n d) f s h = absurd h
 under (fin t m e) hi f s h = refl
 
 -- a factor whose product with 2000 is finite
-module _ (n : ℕ) (d : ℤ) (most : isFin (round binary32 false (2000 * (n * up d)) (down d)) ≡ true) where
-  product-fin : (x : Float) → sign_of x ≡ false → T (le x (fin false 125 (pos 4))) → isFin (mul binary32 x (fin false n d)) ≡ true
+module _ (n : ℕ) (d : ℤ) (most : is_fin (round binary32 false (2000 * (n * up d)) (down d)) ≡ true) where
+  product_fin : (x : Float) → sign_of x ≡ false → T (le x (fin false 125 (pos 4))) → is_fin (mul binary32 x (fin false n d)) ≡ true
   unfolding sign_of le mul
-  product-fin nan s h = absurd h
-  product-fin (inf true) s h = absurd (true≢false s)
-  product-fin (inf false) s h = absurd h
-  product-fin (fin true m e) s h = absurd (true≢false s)
-  product-fin (fin false m e) s h =
-      under (mul binary32 (fin false m e) (fin false n d)) (round binary32 false (2000 * (n * up d)) (down d)) most (round-clear binary32 (m * up e * (n * up d)) (down e * down d)) (bounded m n e d h)
+  product_fin nan s h = absurd h
+  product_fin (inf true) s h = absurd (true≢false s)
+  product_fin (inf false) s h = absurd h
+  product_fin (fin true m e) s h = absurd (true≢false s)
+  product_fin (fin false m e) s h =
+      under (mul binary32 (fin false m e) (fin false n d)) (round binary32 false (2000 * (n * up d)) (down d)) most (round_clear binary32 (m * up e * (n * up d)) (down e * down d)) (bounded m n e d h)
 
-  finite-product : (factor : Float) (w : ℕ) → factor ≡ fin false n d → measurable w ≡ true → finite (product factor w) ≡ true
+  finite_product : (factor : Float) (w : ℕ) → factor ≡ fin false n d → measurable w ≡ true → finite (product factor w) ≡ true
   unfolding product measurable round
-  finite-product factor w e h =
+  finite_product factor w e h =
       let rest = ((and-eq-true_iff (finite w) (ltb w 0x80000000 && le (of_bits binary32 w) (nearest32 2000 1))).0 h).1 in
       let both = (and-eq-true_iff (ltb w 0x80000000) (le (of_bits binary32 w) (nearest32 2000 1))).0 rest in
-      let clear = bits-clear w (ltb-true w 0x80000000 both.0) in
+      let clear = bits_clear w (ltb-true w 0x80000000 both.0) in
       let small : T (le (of_bits binary32 w) (fin false 125 (pos 4))) = subst T (sym both.1) tt in
-      rw e (fin-bits (mul binary32 (of_bits binary32 w) (fin false n d)) (mul-fits binary32 (of_bits binary32 w) (fin false n d)) (product-fin (of_bits binary32 w) clear small))
+      rw e (fin_bits (mul binary32 (of_bits binary32 w) (fin false n d)) (mul-fits binary32 (of_bits binary32 w) (fin false n d)) (product_fin (of_bits binary32 w) clear small))
 
-torr-most : isFin (round binary32 false (2000 * (12583947 * up (negsuc 23))) (down (negsuc 23))) ≡ true
-unfolding round isFin
-torr-most = refl
+torr_most : is_fin (round binary32 false (2000 * (12583947 * up (negsuc 23))) (down (negsuc 23))) ≡ true
+unfolding round is_fin
+torr_most = refl
 
-pascal-most : isFin (round binary32 false (2000 * (25 * up (pos 2))) (down (pos 2))) ≡ true
-unfolding round isFin
-pascal-most = refl
+pascal_most : is_fin (round binary32 false (2000 * (25 * up (pos 2))) (down (pos 2))) ≡ true
+unfolding round is_fin
+pascal_most = refl
 
-micron-most : isFin (round binary32 false (2000 * (12289011 * up (negsuc 13))) (down (negsuc 13))) ≡ true
-unfolding round isFin
-micron-most = refl
+micron_most : is_fin (round binary32 false (2000 * (12289011 * up (negsuc 13))) (down (negsuc 13))) ≡ true
+unfolding round is_fin
+micron_most = refl
 
 -- ---- in every unit
 
 -- what holds of the stored bits and of each product holds of the bits that are sent
-pub bits_each : (P : ℕ → Type 0) (unit w : ℕ) → P w → P (product torr w) → P (product pascal w) → P (product micron w) → P (bitsIn unit w)
-unfolding bitsIn
+pub bits_each : (P : ℕ → Type 0) (unit w : ℕ) → P w → P (product torr w) → P (product pascal w) → P (product micron w) → P (bits_in unit w)
+unfolding bits_in
 bits_each P unit w m t a c = each P _ _ _ (λ _. m) (λ _. each P _ _ _ (λ _. t) (λ _. each P _ _ _ (λ _. a) (λ _. each P _ _ _ (λ _. c) (λ _. m))))
 
 -- what the bench takes is sent as a finite f32, whatever the unit
-pub sent-finite : SentFinite
+pub sent_finite : SentFinite
 unfolding measurable
-sent-finite unit w h =
+sent_finite unit w h =
     bits_each
     (λ (n : ℕ). finite n ≡ true)
     unit
     w
     ((and-eq-true_iff (finite w) (ltb w 0x80000000 && le (of_bits binary32 w) (nearest32 2000 1))).0 h).0
-    (finite-product 12583947 (negsuc 23) torr-most torr w factors.torr-is h)
-    (finite-product 25 (pos 2) pascal-most pascal w factors.pascal-is h)
-    (finite-product 12289011 (negsuc 13) micron-most micron w factors.micron-is h)
+    (finite_product 12583947 (negsuc 23) torr_most torr w factors.torr_is h)
+    (finite_product 25 (pos 2) pascal_most pascal w factors.pascal_is h)
+    (finite_product 12289011 (negsuc 13) micron_most micron w factors.micron_is h)
 
 -- ---- a pressure that is read
 
 -- the f32 of finite bits has those bits: nothing of a reply's four bytes is lost
-pub bits-kept : BitsKept
-bits-kept w h f = to_bits-of_bits binary32 w h (float-no-nan w f)
+pub bits_kept : BitsKept
+bits_kept w h f = to_bits-of_bits binary32 w h (float_no_nan w f)

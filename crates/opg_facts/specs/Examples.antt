@@ -2,7 +2,7 @@
 use Rattle.std.specs.Prelude.{Bool, ◌&&◌, List, [], ◌∷◌, ◌++◌, ℕ, ◌+◌, ◌-◌, ◌*◌, eqb, ltb, replicate}
 use Prim.Native.String.{String}
 use Rattle.buffer.specs.First.{pick}
-use Rattle.buffer.specs.Byte.{sameText}
+use Rattle.buffer.specs.Byte.{same_text}
 use Rattle.buffer.specs.Quoted.{bytes}
 use Rattle.opg_commands.specs.declared.Request.{Request}
 use Rattle.opg_commands.specs.declared.Request.TheVariants.{ReadPressure, ReadUnit, WriteUnit, DetectionOff, DetectionOn}
@@ -10,21 +10,21 @@ use Rattle.opg_gauge.specs.State.{start, benched}
 use Rattle.opg_gauge.specs.declared.Gauge.{Gauge}
 use Rattle.opg_gauge.specs.declared.Pressure.TheVariants.{Bits, Unavailable}
 use Rattle.opg_answer.specs.Reply.{answer_of, after_of}
-use Rattle.opg_request_writer.specs.Written.{requestBytesOf}
-use Rattle.opg_replies.specs.Reply.{read_of, readShown}
+use Rattle.opg_request_writer.specs.Written.{request_bytes_of}
+use Rattle.opg_replies.specs.Reply.{read_of, read_shown}
 
 -- bytes as two hexadecimal digits each, a space between them
 abbrev pub digit : ℕ → ℕ
 digit c = pick (ltb c 58) (c - 48) (c - 55)
 
-unfoldable pub hexOf : List ℕ → List ℕ
-hexOf [] = []
-hexOf (a ∷ []) = []
-hexOf (a ∷ b ∷ []) = (digit a * 16 + digit b) ∷ []
-hexOf (a ∷ b ∷ c ∷ s) = (digit a * 16 + digit b) ∷ hexOf s
+unfoldable pub hex_of : List ℕ → List ℕ
+hex_of [] = []
+hex_of (a ∷ []) = []
+hex_of (a ∷ b ∷ []) = (digit a * 16 + digit b) ∷ []
+hex_of (a ∷ b ∷ c ∷ s) = (digit a * 16 + digit b) ∷ hex_of s
 
 abbrev pub hex : String → List ℕ
-hex t = hexOf (bytes t)
+hex t = hex_of (bytes t)
 
 -- ---- the gauge: its state, the memory lent, the request, the number and the reply
 
@@ -107,7 +107,7 @@ cases =
 abbrev pub right : Case → Bool
 right c =
     let a = answer_of c.room c.gauge c.request in
-    eqb a.number c.number && sameText a.reply c.reply
+    eqb a.number c.number && same_text a.reply c.reply
 
 -- mode 1 with 100 spectra and gas 7, and then mode 0: spectra and gas stay
 abbrev pub switched : Gauge
@@ -156,7 +156,7 @@ told =
     ∷ []
 
 abbrev pub well : Told → Bool
-well t = sameText (readShown (read_of t.request t.reply)) t.read
+well t = same_text (read_shown (read_of t.request t.reply)) t.read
 
 -- ---- the writer: requests and their bytes
 
@@ -177,4 +177,4 @@ sendings =
     ∷ []
 
 abbrev pub fine : Sending → Bool
-fine t = sameText (requestBytesOf t.request) t.frame
+fine t = same_text (request_bytes_of t.request) t.frame

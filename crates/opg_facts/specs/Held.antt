@@ -4,8 +4,8 @@ use Rattle.std.specs.Float.{nan, inf, fin, binary32}
 use Rattle.std.specs.Float.Ieee.{of_bits}
 use Rattle.buffer.specs.First.{pick}
 use Rattle.buffer.specs.Byte.{within}
-use Rattle.opg_units.specs.Units.{finite, bitsIn}
-use Rattle.opg_commands.specs.Limits.{unitLow, unitHigh}
+use Rattle.opg_units.specs.Units.{finite, bits_in}
+use Rattle.opg_commands.specs.Limits.{unit_low, unit_high}
 use Rattle.opg_commands.specs.declared.Request.{Request}
 use Rattle.opg_commands.specs.declared.Request.TheVariants.{ReadPressure, ReadUnit, WriteUnit, DetectionOff, DetectionOn}
 use Rattle.opg_gauge.specs.Judged.{unavailable}
@@ -24,16 +24,16 @@ fits32 DetectionOff = true
 fits32 (DetectionOn n gas) = ltb n 4294967296
 
 -- what a master reads of these bits, and of this unit
-unfoldable pub pressureRead : ℕ → ReadOpg
-pressureRead w = pick (not (finite w)) (Refused 28) (Read (Pressure (of_bits binary32 w)))
+unfoldable pub pressure_read : ℕ → ReadOpg
+pressure_read w = pick (not (finite w)) (Refused 28) (Read (Pressure (of_bits binary32 w)))
 
-unfoldable pub unitRead : ℕ → ReadOpg
-unitRead u = pick (not (within unitLow unitHigh u)) (Refused 28) (Read (Unit u))
+unfoldable pub unit_read : ℕ → ReadOpg
+unit_read u = pick (not (within unit_low unit_high u)) (Refused 28) (Read (Unit u))
 
 -- the value that the gauge holds for a request
 unfoldable pub held_of : Gauge → Request → ReadOpg
-held_of g (ReadPressure u) = pressureRead (bitsIn (unit_of g u) (bits_of g.pressure))
-held_of g ReadUnit = unitRead g.settings.unit
+held_of g (ReadPressure u) = pressure_read (bits_in (unit_of g u) (bits_of g.pressure))
+held_of g ReadUnit = unit_read g.settings.unit
 held_of g (WriteUnit u) = Read Done
 held_of g DetectionOff = Read Done
 held_of g (DetectionOn n gas) = Read Done
@@ -44,7 +44,7 @@ unfoldable pub expected : Gauge → Request → ReadOpg
 expected g r = pick (unavailable g r) (Read (Error 0)) (held_of g r)
 
 -- a float is finite
-unfoldable pub isFin : Float → Bool
-isFin nan = false
-isFin (inf s) = false
-isFin (fin s m e) = true
+unfoldable pub is_fin : Float → Bool
+is_fin nan = false
+is_fin (inf s) = false
+is_fin (fin s m e) = true

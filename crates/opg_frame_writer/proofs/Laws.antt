@@ -8,15 +8,15 @@ use lib.ListN.{length, take, length-append}
 use Rattle.buffer.specs.Answer.{silent, Stored}
 use Rattle.buffer.proofs.Laws.{then, front}
 use Rattle.buffer.proofs.Rules.{rules}
-use Rattle.opg_frames.specs.Frame.{crcBytes}
+use Rattle.opg_frames.specs.Frame.{crc_bytes}
 use Rattle.opg_frame_writer.specs.Written.{sealed, frame, written}
 
-pub length-frame : (id header cmd pid : ℕ) (bytes : List ℕ) → length (frame id header cmd pid bytes) ≡ length bytes + 12
-unfolding frame sealed crcBytes
-length-frame id header cmd pid bytes = simp length-append (omega arith)
+pub length_frame : (id header cmd pid : ℕ) (bytes : List ℕ) → length (frame id header cmd pid bytes) ≡ length bytes + 12
+unfolding frame sealed crc_bytes
+length_frame id header cmd pid bytes = simp length-append (omega arith)
 
 -- a body stored at the front, and then its CRC: the sealed body is stored
-pub seals : {m m₁ m₂ b : List ℕ} (p : ℕ) → Stored m 0 b m₁ → p ≡ length b → length b ≤ length m → Stored m₁ p (crcBytes (take p m₁)) m₂ → Stored m 0 (sealed b) m₂
+pub seals : {m m₁ m₂ b : List ℕ} (p : ℕ) → Stored m 0 b m₁ → p ≡ length b → length b ≤ length m → Stored m₁ p (crc_bytes (take p m₁)) m₂ → Stored m 0 (sealed b) m₂
 unfolding sealed
 seals p f n h g = then p f (n ∙ sym (zero-add _)) (rw (front p f n h) at g)
 

@@ -1,12 +1,12 @@
 // OPG frames written into lent memory (document 01, "OPG frames").
 ghost use Rattle.std.specs.Prelude.{length, take};
 ghost use Rattle.buffer.specs.Answer.{Stored, Sent};
-ghost use Rattle.opg_frames.specs.Frame.{crcBytes};
-ghost use Rattle.opg_frame_writer.specs.Written.{frame, written, requestFrame, replyFrame};
+ghost use Rattle.opg_frames.specs.Frame.{crc_bytes};
+ghost use Rattle.opg_frame_writer.specs.Written.{frame, written, request_frame, reply_frame};
 
 // Stores the CRC of all that stands before `at`, low byte first.
 fn put_crc(out: &mut [u8], at: usize)
-    ensures { Stored out.old at (crcBytes (take at out.old)) out.new }
+    ensures { Stored out.old at (crc_bytes (take at out.old)) out.new }
 {
     if out.len() < at {
         return;
@@ -69,7 +69,7 @@ pub fn write_request_frame(
     pid: u16,
     bytes: &[u8],
 ) -> buffer::Written
-    ensures { Sent out.old (written (length out.old) number bytes.now (requestFrame cmd pid bytes.now)) out.new result }
+    ensures { Sent out.old (written (length out.old) number bytes.now (request_frame cmd pid bytes.now)) out.new result }
 {
     write_frame(out, number, 0, 0x20, cmd, pid, bytes)
 }
@@ -82,7 +82,7 @@ pub fn write_reply_frame(
     pid: u16,
     bytes: &[u8],
 ) -> buffer::Written
-    ensures { Sent out.old (written (length out.old) number bytes.now (replyFrame cmd pid bytes.now)) out.new result }
+    ensures { Sent out.old (written (length out.old) number bytes.now (reply_frame cmd pid bytes.now)) out.new result }
 {
     write_frame(out, number, 0x0b, 0x21, cmd, pid, bytes)
 }

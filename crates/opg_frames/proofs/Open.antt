@@ -1,7 +1,7 @@
--- To compute with these definitions: `unfolding opg-frames-open` opens every one of this crate, and those that they stand on.
-use Rattle.opg_crc.proofs.Open.{opg-crc-open}
-use Rattle.opg_frames.specs.Frame.{address_of, id_of, versionOf, reservedOf, acknowledgeOf, len_of, cmdOf, pidOf, idx_of, count_of, crcBytes, misshapen, foreign, wrongCrc, wrongVersion, acknowledges, indexed}
+-- To compute with these definitions: `unfolding opg_frames_open` opens every one of this crate, and those that they stand on.
+use Rattle.opg_crc.proofs.Open.{opg_crc_open}
+use Rattle.opg_frames.specs.Frame.{address_of, id_of, version_of, reserved_of, acknowledge_of, len_of, cmd_of, pid_of, idx_of, count_of, crc_bytes, misshapen, foreign, wrong_crc, wrong_version, acknowledges, indexed}
 
-unfoldable pub opg-frames-open : Unit {0}
-unfolding opg-crc-open address_of id_of versionOf reservedOf acknowledgeOf len_of cmdOf pidOf idx_of count_of crcBytes misshapen foreign wrongCrc wrongVersion acknowledges indexed
-opg-frames-open = tt
+unfoldable pub opg_frames_open : Unit {0}
+unfolding opg_crc_open address_of id_of version_of reserved_of acknowledge_of len_of cmd_of pid_of idx_of count_of crc_bytes misshapen foreign wrong_crc wrong_version acknowledges indexed
+opg_frames_open = tt

@@ -1,6 +1,6 @@
 // OPG frames (document 01, "OPG frames"): the parts of any bytes as a frame.
 ghost use Rattle.std.specs.Prelude.{◌≡◌};
-ghost use Rattle.opg_frames.specs.Frame.{len_of, cmdOf, pidOf, count_of, misshapen, foreign, wrongCrc, wrongVersion, acknowledges, indexed};
+ghost use Rattle.opg_frames.specs.Frame.{len_of, cmd_of, pid_of, count_of, misshapen, foreign, wrong_crc, wrong_version, acknowledges, indexed};
 
 fn len_of(s: &[u8]) -> u16
     ensures { result ≡ len_of s.now }
@@ -9,13 +9,13 @@ fn len_of(s: &[u8]) -> u16
 }
 
 pub fn cmd_of(s: &[u8]) -> u8
-    ensures { result ≡ cmdOf s.now }
+    ensures { result ≡ cmd_of s.now }
 {
     buffer::byte_at(s, 5)
 }
 
 pub fn pid_of(s: &[u8]) -> u16
-    ensures { result ≡ pidOf s.now }
+    ensures { result ≡ pid_of s.now }
 {
     (buffer::byte_at(s, 6) as u16) * 256 + (buffer::byte_at(s, 7) as u16)
 }
@@ -56,7 +56,7 @@ pub fn is_foreign(s: &[u8], id: u8) -> bool
 }
 
 pub fn has_wrong_crc(s: &[u8]) -> bool
-    ensures { result ≡ wrongCrc s.now }
+    ensures { result ≡ wrong_crc s.now }
 {
     let n = s.len();
     if n < 2 {
@@ -68,7 +68,7 @@ pub fn has_wrong_crc(s: &[u8]) -> bool
 }
 
 pub fn has_wrong_version(s: &[u8]) -> bool
-    ensures { result ≡ wrongVersion s.now }
+    ensures { result ≡ wrong_version s.now }
 {
     buffer::byte_at(s, 2) / 16 != 2
 }

@@ -17,17 +17,17 @@ use Rattle.opg_gauge.specs.declared.Gauge.{Gauge}
 
 -- what is no accepted request stays as it is, and changes nothing
 module _ (g : Gauge) where
-  pub refused-stays : (a : Asked) → OneOf (0 ∷ 1 ∷ []) (tag_of the_type a) → a ≡ judged g a
+  pub refused_stays : (a : Asked) → OneOf (0 ∷ 1 ∷ []) (tag_of the_type a) → a ≡ judged g a
   unfolding judged
-  refused-stays (Silent k) h = refl
-  refused-stays (Error e) h = refl
-  refused-stays (Accepted r) h = absurd (miss (0 ∷ 1 ∷ []) 2 tt h)
+  refused_stays (Silent k) h = refl
+  refused_stays (Error e) h = refl
+  refused_stays (Accepted r) h = absurd (miss (0 ∷ 1 ∷ []) 2 tt h)
 
-  pub refused-keeps : (a : Asked) → OneOf (0 ∷ 1 ∷ []) (tag_of the_type a) → g ≡ after g a
+  pub refused_keeps : (a : Asked) → OneOf (0 ∷ 1 ∷ []) (tag_of the_type a) → g ≡ after g a
   unfolding after
-  refused-keeps (Silent k) h = refl
-  refused-keeps (Error e) h = refl
-  refused-keeps (Accepted r) h = absurd (miss (0 ∷ 1 ∷ []) 2 tt h)
+  refused_keeps (Silent k) h = refl
+  refused_keeps (Error e) h = refl
+  refused_keeps (Accepted r) h = absurd (miss (0 ∷ 1 ∷ []) 2 tt h)
 
 -- rows that give what f keeps, and then others: f of what the rows give
 abbrev Kept : (Asked → Asked) → List (Row Asked) → Type 0
@@ -44,8 +44,8 @@ kept f ((t ⇒ a) ∷ rows) more d e h k = go t (kept f rows more d e h.1 k)
     go false r = r
 
 -- with room enough, the request as it was read is held against the pressure
-pub judged-is : (room : ℕ) (g : Gauge) (s : List ℕ) → 32 ≤ room → judgement room g s ≡ judged g (asked_of s)
+pub judged_is : (room : ℕ) (g : Gauge) (s : List ℕ) → 32 ≤ room → judgement room g s ≡ judged g (asked_of s)
 unfolding judgement judged asked_of pick
-judged-is room g s h =
+judged_is room g s h =
     rw (le-ltb room 32 h)
     (kept (judged g) (refusals s) (unavailable g (meaning s) ⇒ Error 0 ∷ []) (Accepted (meaning s)) (Accepted (meaning s)) (refl, (refl, (refl, (refl, (refl, (refl, (refl, (refl, (refl, (refl, (refl, refl))))))))))) refl)

@@ -1,9 +1,9 @@
--- To compute with these definitions: `unfolding opg-gauge-open` opens every one of this crate, and those that they stand on.
-use Rattle.opg_request_reader.proofs.Open.{opg-request-reader-open}
-use Rattle.opg_units.proofs.Open.{opg-units-open}
-use Rattle.opg_gauge.specs.Judged.{isPressureRead, unavailable, judgement, after}
-use Rattle.opg_gauge.specs.State.{isUnavailable, takes, benched}
+-- To compute with these definitions: `unfolding opg_gauge_open` opens every one of this crate, and those that they stand on.
+use Rattle.opg_request_reader.proofs.Open.{opg_request_reader_open}
+use Rattle.opg_units.proofs.Open.{opg_units_open}
+use Rattle.opg_gauge.specs.Judged.{is_pressure_read, unavailable, judgement, after}
+use Rattle.opg_gauge.specs.State.{is_unavailable, takes, benched}
 
-unfoldable pub opg-gauge-open : Unit {0}
-unfolding opg-request-reader-open opg-units-open isPressureRead unavailable judgement after isUnavailable takes benched
-opg-gauge-open = tt
+unfoldable pub opg_gauge_open : Unit {0}
+unfolding opg_request_reader_open opg_units_open is_pressure_read unavailable judgement after is_unavailable takes benched
+opg_gauge_open = tt

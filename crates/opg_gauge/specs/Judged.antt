@@ -7,19 +7,19 @@ use Rattle.opg_commands.specs.declared.Request.{Request}
 use Rattle.opg_commands.specs.declared.Request.TheVariants.{ReadPressure, ReadUnit, WriteUnit, DetectionOff, DetectionOn}
 use Rattle.opg_request_reader.specs.declared.Asked.{Asked}
 use Rattle.opg_request_reader.specs.declared.Asked.TheVariants.{Silent, Error, Accepted}
-use Rattle.opg_gauge.specs.State.{isUnavailable}
+use Rattle.opg_gauge.specs.State.{is_unavailable}
 use Rattle.opg_gauge.specs.declared.Gauge.{Gauge}
 
-unfoldable pub isPressureRead : Request → Bool
-isPressureRead (ReadPressure u) = true
-isPressureRead ReadUnit = false
-isPressureRead (WriteUnit u) = false
-isPressureRead DetectionOff = false
-isPressureRead (DetectionOn n gas) = false
+unfoldable pub is_pressure_read : Request → Bool
+is_pressure_read (ReadPressure u) = true
+is_pressure_read ReadUnit = false
+is_pressure_read (WriteUnit u) = false
+is_pressure_read DetectionOff = false
+is_pressure_read (DetectionOn n gas) = false
 
 -- "pressure unavailable 0"
 unfoldable pub unavailable : Gauge → Request → Bool
-unavailable g r = isPressureRead r && isUnavailable g.pressure
+unavailable g r = is_pressure_read r && is_unavailable g.pressure
 
 -- the order of document 01: "21 less than 32 bytes lent", then the refusals that depend on the bytes alone, then "pressure unavailable 0"
 unfoldable pub judgement : ℕ → Gauge → List ℕ → Asked

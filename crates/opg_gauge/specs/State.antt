@@ -12,9 +12,9 @@ use Rattle.opg_gauge.specs.declared.BenchAnswer.{BenchAnswer}
 abbrev pub start : Gauge
 start = record { settings = factory; pressure = Bits 0 }
 
-unfoldable pub isUnavailable : Pressure → Bool
-isUnavailable (Bits w) = false
-isUnavailable Unavailable = true
+unfoldable pub is_unavailable : Pressure → Bool
+is_unavailable (Bits w) = false
+is_unavailable Unavailable = true
 
 -- "The bench gives mbar, finite, 0 to 2000, not negative zero (else 15), or unavailable"
 unfoldable pub takes : Pressure → Bool

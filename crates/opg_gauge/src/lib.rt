@@ -1,8 +1,8 @@
 // The simulated OPG (document 01, "OPG frames"): its state, the bench, what any bytes ask of it, and what they
 // change.
 ghost use Rattle.std.specs.Prelude.{◌≡◌};
-ghost use Rattle.opg_gauge.specs.State.{start, isUnavailable, takes, benched};
-ghost use Rattle.opg_gauge.specs.Judged.{isPressureRead, judgement, after};
+ghost use Rattle.opg_gauge.specs.State.{start, is_unavailable, takes, benched};
+ghost use Rattle.opg_gauge.specs.Judged.{is_pressure_read, judgement, after};
 ghost use Rattle.opg_gauge.specs.Inner.{judged};
 
 use opg_commands::{Request, Settings};
@@ -30,7 +30,7 @@ pub struct BenchAnswer {
 }
 
 fn is_unavailable(p: Pressure) -> bool
-    ensures { result ≡ isUnavailable p }
+    ensures { result ≡ is_unavailable p }
 {
     match p {
         Pressure::Bits(_) => false,
@@ -49,7 +49,7 @@ fn is_taken(p: Pressure) -> bool
 }
 
 fn is_pressure_read(r: Request) -> bool
-    ensures { result ≡ isPressureRead r }
+    ensures { result ≡ is_pressure_read r }
 {
     match r {
         Request::ReadPressure(_) => true,

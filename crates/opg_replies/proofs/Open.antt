@@ -1,9 +1,9 @@
--- To compute with these definitions: `unfolding opg-replies-open` opens every one of this crate, and those that they stand on.
-use Rattle.opg_frames.proofs.Open.{opg-frames-open}
-use Rattle.opg_commands.proofs.Open.{opg-commands-open}
-use Rattle.opg_units.proofs.Open.{opg-units-open}
-use Rattle.opg_replies.specs.Reply.{isError, otherReply, neededOf, wrongCount, replyValue, read_of, readShown}
+-- To compute with these definitions: `unfolding opg_replies_open` opens every one of this crate, and those that they stand on.
+use Rattle.opg_frames.proofs.Open.{opg_frames_open}
+use Rattle.opg_commands.proofs.Open.{opg_commands_open}
+use Rattle.opg_units.proofs.Open.{opg_units_open}
+use Rattle.opg_replies.specs.Reply.{is_error, other_reply, needed_of, wrong_count, reply_value, read_of, read_shown}
 
-unfoldable pub opg-replies-open : Unit {0}
-unfolding opg-frames-open opg-commands-open opg-units-open isError otherReply neededOf wrongCount replyValue read_of readShown
-opg-replies-open = tt
+unfoldable pub opg_replies_open : Unit {0}
+unfolding opg_frames_open opg_commands_open opg_units_open is_error other_reply needed_of wrong_count reply_value read_of read_shown
+opg_replies_open = tt

@@ -4,10 +4,10 @@ use Rattle.std.specs.Float.{binary32}
 use Rattle.std.specs.Float.Ieee.{of_bits, to_bits}
 use Rattle.buffer.specs.First.{Row, ◌⇒◌, first, pick}
 use Rattle.buffer.specs.Byte.{within, word_at}
-use Rattle.opg_frames.specs.Frame.{misshapen, foreign, wrongCrc, wrongVersion, acknowledges, indexed, cmdOf, pidOf, count_of, dataAt}
+use Rattle.opg_frames.specs.Frame.{misshapen, foreign, wrong_crc, wrong_version, acknowledges, indexed, cmd_of, pid_of, count_of, data_at}
 use Rattle.opg_units.specs.Units.{finite}
-use Rattle.opg_commands.specs.Limits.{unitLow, unitHigh}
-use Rattle.opg_commands.specs.Request.{requestPid, replyCmd, replyCount}
+use Rattle.opg_commands.specs.Limits.{unit_low, unit_high}
+use Rattle.opg_commands.specs.Request.{request_pid, reply_cmd, reply_count}
 use Rattle.opg_commands.specs.declared.Request.{Request}
 use Rattle.opg_commands.specs.declared.Request.TheVariants.{ReadPressure, ReadUnit, WriteUnit, DetectionOff, DetectionOn}
 use Rattle.opg_replies.specs.declared.Reply.TheVariants.{Pressure, Unit, Done, Error}
@@ -15,49 +15,49 @@ use Rattle.opg_replies.specs.declared.ReadOpg.{ReadOpg}
 use Rattle.opg_replies.specs.declared.ReadOpg.TheVariants.{Refused, Read}
 
 -- "An error reply has PID 0xFFFF"
-unfoldable pub isError : List ℕ → Bool
-isError s = eqb (pidOf s) 0xffff
+unfoldable pub is_error : List ℕ → Bool
+is_error s = eqb (pid_of s) 0xffff
 
 -- "26 CMD not the request's plus 1, IDX not 0, or PID neither the request's nor 0xFFFF"
-unfoldable pub otherReply : Request → List ℕ → Bool
-otherReply r s = not (eqb (cmdOf s) (replyCmd r)) || (indexed s || (not (isError s) && not (eqb (pidOf s) (requestPid r))))
+unfoldable pub other_reply : Request → List ℕ → Bool
+other_reply r s = not (eqb (cmd_of s) (reply_cmd r)) || (indexed s || (not (is_error s) && not (eqb (pid_of s) (request_pid r))))
 
 -- "27 data length": an error has one byte
-unfoldable pub neededOf : Request → List ℕ → ℕ
-neededOf r s = pick (isError s) 1 (replyCount r)
+unfoldable pub needed_of : Request → List ℕ → ℕ
+needed_of r s = pick (is_error s) 1 (reply_count r)
 
-unfoldable pub wrongCount : Request → List ℕ → Bool
-wrongCount r s = not (eqb (count_of s) (neededOf r s))
+unfoldable pub wrong_count : Request → List ℕ → Bool
+wrong_count r s = not (eqb (count_of s) (needed_of r s))
 
 -- "28 a unit outside 1 to 4, or a pressure that is not finite"; the pressure is the f32 of the four bytes, high byte first
-unfoldable pub replyValue : Request → List ℕ → ReadOpg
-replyValue (ReadPressure u) s = pick (not (finite (word_at s 10))) (Refused 28) (Read (Pressure (of_bits binary32 (word_at s 10))))
-replyValue ReadUnit s = pick (not (within unitLow unitHigh (dataAt s 0))) (Refused 28) (Read (Unit (dataAt s 0)))
-replyValue (WriteUnit u) s = Read Done
-replyValue DetectionOff s = Read Done
-replyValue (DetectionOn n gas) s = Read Done
+unfoldable pub reply_value : Request → List ℕ → ReadOpg
+reply_value (ReadPressure u) s = pick (not (finite (word_at s 10))) (Refused 28) (Read (Pressure (of_bits binary32 (word_at s 10))))
+reply_value ReadUnit s = pick (not (within unit_low unit_high (data_at s 0))) (Refused 28) (Read (Unit (data_at s 0)))
+reply_value (WriteUnit u) s = Read Done
+reply_value DetectionOff s = Read Done
+reply_value (DetectionOn n gas) s = Read Done
 
 -- "22 length or reserved bits; 23 ADDR not 0 or ID not 0x0B; 24 CRC; 25 version, or acknowledge clear; 26 ..; 27 ..", then an error's byte
-abbrev pub replyRows : Request → List ℕ → List (Row ReadOpg)
-replyRows r s =
+abbrev pub reply_rows : Request → List ℕ → List (Row ReadOpg)
+reply_rows r s =
     misshapen s ⇒ Refused 22
     ∷ foreign 0x0b s ⇒ Refused 23
-    ∷ wrongCrc s ⇒ Refused 24
-    ∷ wrongVersion s ⇒ Refused 25
+    ∷ wrong_crc s ⇒ Refused 24
+    ∷ wrong_version s ⇒ Refused 25
     ∷ not (acknowledges s) ⇒ Refused 25
-    ∷ otherReply r s ⇒ Refused 26
-    ∷ wrongCount r s ⇒ Refused 27
-    ∷ isError s ⇒ Read (Error (dataAt s 0))
+    ∷ other_reply r s ⇒ Refused 26
+    ∷ wrong_count r s ⇒ Refused 27
+    ∷ is_error s ⇒ Read (Error (data_at s 0))
     ∷ []
 
 unfoldable pub read_of : Request → List ℕ → ReadOpg
-read_of r s = first (replyRows r s) (replyValue r s)
+read_of r s = first (reply_rows r s) (reply_value r s)
 
 -- document 01's number and values for each answer: a refusal's number; or 20, the kind (1 a pressure, 2 a unit, 3 a done, 4 an error) and
 -- the value: a pressure's 32 bits, a unit, an error's byte
-unfoldable pub readShown : ReadOpg → List ℕ
-readShown (Refused k) = k ∷ []
-readShown (Read (Pressure p)) = 20 ∷ 1 ∷ to_bits binary32 p ∷ []
-readShown (Read (Unit u)) = 20 ∷ 2 ∷ u ∷ []
-readShown (Read Done) = 20 ∷ 3 ∷ []
-readShown (Read (Error e)) = 20 ∷ 4 ∷ e ∷ []
+unfoldable pub read_shown : ReadOpg → List ℕ
+read_shown (Refused k) = k ∷ []
+read_shown (Read (Pressure p)) = 20 ∷ 1 ∷ to_bits binary32 p ∷ []
+read_shown (Read (Unit u)) = 20 ∷ 2 ∷ u ∷ []
+read_shown (Read Done) = 20 ∷ 3 ∷ []
+read_shown (Read (Error e)) = 20 ∷ 4 ∷ e ∷ []

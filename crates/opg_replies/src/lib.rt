@@ -1,7 +1,7 @@
 // Replies of an OPG as the master reads them (document 01, "The master's side").
 ghost use Rattle.std.specs.Prelude.{◌≡◌};
 ghost use Rattle.buffer.specs.Byte.{word_at};
-ghost use Rattle.opg_replies.specs.Reply.{isError, otherReply, neededOf, wrongCount, replyValue, read_of};
+ghost use Rattle.opg_replies.specs.Reply.{is_error, other_reply, needed_of, wrong_count, reply_value, read_of};
 
 use opg_commands::{Request, Settings};
 
@@ -22,14 +22,14 @@ pub enum ReadOpg {
 }
 
 fn is_error(s: &[u8]) -> bool
-    ensures { result ≡ isError s.now }
+    ensures { result ≡ is_error s.now }
 {
     opg_frames::pid_of(s) == 0xffff
 }
 
 // Whether CMD, IDX or PID are not those of a reply to the request.
 fn is_other_reply(r: Request, s: &[u8]) -> bool
-    ensures { result ≡ otherReply r s.now }
+    ensures { result ≡ other_reply r s.now }
 {
     if opg_frames::cmd_of(s) != opg_commands::reply_cmd(r) {
         return true;
@@ -45,7 +45,7 @@ fn is_other_reply(r: Request, s: &[u8]) -> bool
 
 // How many data bytes the reply has to have.
 fn needed(r: Request, s: &[u8]) -> usize
-    ensures { result ≡ neededOf r s.now }
+    ensures { result ≡ needed_of r s.now }
 {
     if is_error(s) {
         return 1;
@@ -54,7 +54,7 @@ fn needed(r: Request, s: &[u8]) -> usize
 }
 
 fn has_wrong_count(r: Request, s: &[u8]) -> bool
-    ensures { result ≡ wrongCount r s.now }
+    ensures { result ≡ wrong_count r s.now }
 {
     opg_frames::count_of(s) != needed(r, s)
 }
@@ -73,7 +73,7 @@ fn word(s: &[u8]) -> u32
 
 // The value that answers a request.
 fn read_value(r: Request, s: &[u8]) -> ReadOpg
-    ensures { result ≡ replyValue r s.now }
+    ensures { result ≡ reply_value r s.now }
 {
     match r {
         Request::ReadPressure(_) => {

@@ -12,11 +12,11 @@ use denote.Enum.Declared.{tag_of}
 use Rattle.opg_replies.specs.declared.Reply.{Reply}
 use Rattle.opg_replies.specs.declared.Reply.TheVariants.{Pressure, Unit, Done, Error}
 use Rattle.opg_replies.specs.contracts.Reply.{the_type}
-use Rattle.opg_replies.specs.Reply.{readShown}
+use Rattle.opg_replies.specs.Reply.{read_shown}
 use Rattle.opg_reply_kinds.specs.Kind.{kind_of}
 
 placed : (r : Reply) → kind_of r ≡ tag_of the_type r + 1
-unfolding readShown
+unfolding read_shown
 placed (Pressure p) = refl
 placed (Unit u) = refl
 placed Done = refl

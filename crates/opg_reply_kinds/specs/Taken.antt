@@ -1,18 +1,18 @@
 -- Document 01: "A reply of another kind never yields a value": the number with which a value is taken out of a reply, on `readingShown`.
 use Rattle.std.specs.Prelude.{List, [], ◌∷◌, ℕ, ◌+◌}
 use Rattle.buffer.specs.Byte.{at}
-use Rattle.opg_replies.specs.Reply.{readShown}
+use Rattle.opg_replies.specs.Reply.{read_shown}
 use Rattle.opg_replies.specs.declared.Reply.{Reply}
 use Rattle.opg_replies.specs.declared.Reply.TheVariants.{Pressure, Unit, Done, Error}
 use Rattle.opg_reply_kinds.specs.Kind.{expected}
 
 -- the number with which a value of the kind k is taken out
-abbrev pub takenNumber : ℕ → Reply → ℕ
-takenNumber k r = at (readShown (expected k r)) 0
+abbrev pub taken_number : ℕ → Reply → ℕ
+taken_number k r = at (read_shown (expected k r)) 0
 
 -- the two numbers, for a pressure and a unit
-abbrev pub numbersOf : Reply → List ℕ
-numbersOf r = takenNumber 1 r ∷ takenNumber 2 r ∷ []
+abbrev pub numbers_of : Reply → List ℕ
+numbers_of r = taken_number 1 r ∷ taken_number 2 r ∷ []
 
 -- and what they have to be
 abbrev pub listed : Reply → List ℕ

@@ -1,6 +1,6 @@
 // The value taken out of a decoded reply of an OPG (document 01, "The master's side"): a reply of another kind never yields one.
 ghost use Rattle.std.specs.Prelude.{◌≡◌};
-ghost use Rattle.opg_reply_kinds.specs.Kind.{noValue, expected, asMeasured, asUnit};
+ghost use Rattle.opg_reply_kinds.specs.Kind.{no_value, expected, as_measured, as_unit};
 
 use opg_replies::Reply;
 
@@ -20,7 +20,7 @@ pub enum UnitRead {
 
 // Why a reply that is not of the expected kind has no value: an error has its own number.
 fn no_value(reply: Reply) -> u16
-    ensures { result ≡ noValue reply }
+    ensures { result ≡ no_value reply }
 {
     let Reply::Error(e) = reply else {
         return 26;
@@ -29,7 +29,7 @@ fn no_value(reply: Reply) -> u16
 }
 
 pub fn pressure_of(reply: Reply) -> Measured
-    ensures { asMeasured result ≡ expected 1 reply }
+    ensures { as_measured result ≡ expected 1 reply }
 {
     let Reply::Pressure(p) = reply else {
         return Measured::Refused(no_value(reply));
@@ -38,7 +38,7 @@ pub fn pressure_of(reply: Reply) -> Measured
 }
 
 pub fn unit_of(reply: Reply) -> UnitRead
-    ensures { asUnit result ≡ expected 2 reply }
+    ensures { as_unit result ≡ expected 2 reply }
 {
     let Reply::Unit(u) = reply else {
         return UnitRead::Refused(no_value(reply));

@@ -2,73 +2,73 @@
 use Rattle.std.specs.Prelude.{Bool, not, ◌&&◌, ◌||◌, List, [], ◌∷◌, ℕ, ◌+◌, eqb, leb, length}
 use Rattle.buffer.specs.Byte.{within, word_at}
 use Rattle.buffer.specs.First.{Row, ◌⇒◌, first, pick}
-use Rattle.opg_frames.specs.Frame.{misshapen, foreign, wrongCrc, wrongVersion, acknowledges, indexed, cmdOf, pidOf, count_of, dataAt}
-use Rattle.opg_commands.specs.Limits.{modeHigh}
-use Rattle.opg_commands.specs.Request.{outsideOf}
+use Rattle.opg_frames.specs.Frame.{misshapen, foreign, wrong_crc, wrong_version, acknowledges, indexed, cmd_of, pid_of, count_of, data_at}
+use Rattle.opg_commands.specs.Limits.{mode_high}
+use Rattle.opg_commands.specs.Request.{outside_of}
 use Rattle.opg_commands.specs.declared.Request.{Request}
 use Rattle.opg_commands.specs.declared.Request.TheVariants.{ReadPressure, ReadUnit, WriteUnit, DetectionOff, DetectionOn}
 use Rattle.opg_request_reader.specs.declared.Asked.{Asked}
 use Rattle.opg_request_reader.specs.declared.Asked.TheVariants.{Silent, Error, Accepted}
 
 -- "22 length or reserved bits wrong"; "a request at most 128"
-unfoldable pub wrongShape : List ℕ → Bool
-wrongShape s = leb 129 (length s) || misshapen s
+unfoldable pub wrong_shape : List ℕ → Bool
+wrong_shape s = leb 129 (length s) || misshapen s
 
 -- "CMD not 1 or 3: 101"
-unfoldable pub unknownCmd : List ℕ → Bool
-unknownCmd s = not (eqb (cmdOf s) 1 || eqb (cmdOf s) 3)
+unfoldable pub unknown_cmd : List ℕ → Bool
+unknown_cmd s = not (eqb (cmd_of s) 1 || eqb (cmd_of s) 3)
 
 -- "PID unknown 3"
-unfoldable pub unknownPid : List ℕ → Bool
-unknownPid s = not (eqb (pidOf s) 14000 || (eqb (pidOf s) 14001 || eqb (pidOf s) 22000))
+unfoldable pub unknown_pid : List ℕ → Bool
+unknown_pid s = not (eqb (pid_of s) 14000 || (eqb (pid_of s) 14001 || eqb (pid_of s) 22000))
 
 -- "access 1": "PID 14000 read", "PID 14001 read and write", "PID 22000 write"
-unfoldable pub lacksAccess : List ℕ → Bool
-lacksAccess s = (eqb (pidOf s) 14000 && eqb (cmdOf s) 3) || (eqb (pidOf s) 22000 && eqb (cmdOf s) 1)
+unfoldable pub lacks_access : List ℕ → Bool
+lacks_access s = (eqb (pid_of s) 14000 && eqb (cmd_of s) 3) || (eqb (pid_of s) 22000 && eqb (cmd_of s) 1)
 
 -- "data length 4": the pressure's unit; mode, spectra and gas; the unit that is written; none with the unit's read
-unfoldable pub neededOf : List ℕ → ℕ
-neededOf s =
+unfoldable pub needed_of : List ℕ → ℕ
+needed_of s =
     first
-    (eqb (pidOf s) 14000 ⇒ 1
-    ∷ eqb (pidOf s) 22000 ⇒ 6
-    ∷ eqb (cmdOf s) 3 ⇒ 1
+    (eqb (pid_of s) 14000 ⇒ 1
+    ∷ eqb (pid_of s) 22000 ⇒ 6
+    ∷ eqb (cmd_of s) 3 ⇒ 1
     ∷ [])
     0
 
-unfoldable pub wrongCount : List ℕ → Bool
-wrongCount s = not (eqb (count_of s) (neededOf s))
+unfoldable pub wrong_count : List ℕ → Bool
+wrong_count s = not (eqb (count_of s) (needed_of s))
 
 -- what a request means. "With mode 0 the other five bytes are not examined"
 unfoldable pub meaning : List ℕ → Request
 meaning s =
     first
-    (eqb (pidOf s) 14000 ⇒ ReadPressure (dataAt s 0)
-    ∷ eqb (pidOf s) 14001 ⇒ pick (eqb (cmdOf s) 1) ReadUnit (WriteUnit (dataAt s 0))
-    ∷ eqb (dataAt s 0) 0 ⇒ DetectionOff
+    (eqb (pid_of s) 14000 ⇒ ReadPressure (data_at s 0)
+    ∷ eqb (pid_of s) 14001 ⇒ pick (eqb (cmd_of s) 1) ReadUnit (WriteUnit (data_at s 0))
+    ∷ eqb (data_at s 0) 0 ⇒ DetectionOff
     ∷ [])
-    (DetectionOn (word_at s 11) (dataAt s 5))
+    (DetectionOn (word_at s 11) (data_at s 5))
 
 -- "value 2": "mode 0 or 1", or a value of the request
-unfoldable pub wrongMode : List ℕ → Bool
-wrongMode s = eqb (pidOf s) 22000 && not (within 0 modeHigh (dataAt s 0))
+unfoldable pub wrong_mode : List ℕ → Bool
+wrong_mode s = eqb (pid_of s) 22000 && not (within 0 mode_high (data_at s 0))
 
 unfoldable pub outside : List ℕ → Bool
-outside s = wrongMode s || outsideOf (meaning s)
+outside s = wrong_mode s || outside_of (meaning s)
 
 -- the refusals that depend on the bytes alone, in the order of document 01. 22 and 23 are silent; the others are answered with an error byte
 abbrev pub refusals : List ℕ → List (Row Asked)
 refusals s =
-    wrongShape s ⇒ Silent 22
+    wrong_shape s ⇒ Silent 22
     ∷ foreign 0 s ⇒ Silent 23
-    ∷ wrongCrc s ⇒ Error 100
-    ∷ wrongVersion s ⇒ Error 104
+    ∷ wrong_crc s ⇒ Error 100
+    ∷ wrong_version s ⇒ Error 104
     ∷ acknowledges s ⇒ Error 102
-    ∷ unknownCmd s ⇒ Error 101
-    ∷ unknownPid s ⇒ Error 3
-    ∷ lacksAccess s ⇒ Error 1
+    ∷ unknown_cmd s ⇒ Error 101
+    ∷ unknown_pid s ⇒ Error 3
+    ∷ lacks_access s ⇒ Error 1
     ∷ indexed s ⇒ Error 2
-    ∷ wrongCount s ⇒ Error 4
+    ∷ wrong_count s ⇒ Error 4
     ∷ outside s ⇒ Error 2
     ∷ []
 
@@ -76,7 +76,7 @@ unfoldable pub asked_of : List ℕ → Asked
 asked_of s = first (refusals s) (Accepted (meaning s))
 
 -- document 01's number for each answer: "with error byte e and number 1000 + e"; "Accepted is 20"
-unfoldable pub askedNumber : Asked → ℕ
-askedNumber (Silent k) = k
-askedNumber (Error e) = 1000 + e
-askedNumber (Accepted r) = 20
+unfoldable pub asked_number : Asked → ℕ
+asked_number (Silent k) = k
+asked_number (Error e) = 1000 + e
+asked_number (Accepted r) = 20

@@ -1,7 +1,7 @@
 // The requests of the OPG protocol (document 01, "OPG frames"): any bytes read as one.
 ghost use Rattle.std.specs.Prelude.{◌≡◌};
 ghost use Rattle.buffer.specs.Byte.{word_at};
-ghost use Rattle.opg_request_reader.specs.Asked.{wrongShape, unknownCmd, unknownPid, lacksAccess, neededOf, wrongCount, meaning, wrongMode, outside, asked_of};
+ghost use Rattle.opg_request_reader.specs.Asked.{wrong_shape, unknown_cmd, unknown_pid, lacks_access, needed_of, wrong_count, meaning, wrong_mode, outside, asked_of};
 
 use opg_commands::{Request, Settings};
 
@@ -14,7 +14,7 @@ pub enum Asked {
 }
 
 fn has_wrong_shape(s: &[u8]) -> bool
-    ensures { result ≡ wrongShape s.now }
+    ensures { result ≡ wrong_shape s.now }
 {
     if 129 <= s.len() {
         return true;
@@ -23,7 +23,7 @@ fn has_wrong_shape(s: &[u8]) -> bool
 }
 
 fn has_unknown_cmd(s: &[u8]) -> bool
-    ensures { result ≡ unknownCmd s.now }
+    ensures { result ≡ unknown_cmd s.now }
 {
     let cmd = opg_frames::cmd_of(s);
     if cmd == 1 {
@@ -36,7 +36,7 @@ fn has_unknown_cmd(s: &[u8]) -> bool
 }
 
 fn has_unknown_pid(s: &[u8]) -> bool
-    ensures { result ≡ unknownPid s.now }
+    ensures { result ≡ unknown_pid s.now }
 {
     let pid = opg_frames::pid_of(s);
     if pid == 14000 {
@@ -52,7 +52,7 @@ fn has_unknown_pid(s: &[u8]) -> bool
 }
 
 fn has_no_access(s: &[u8]) -> bool
-    ensures { result ≡ lacksAccess s.now }
+    ensures { result ≡ lacks_access s.now }
 {
     let pid = opg_frames::pid_of(s);
     let cmd = opg_frames::cmd_of(s);
@@ -67,7 +67,7 @@ fn has_no_access(s: &[u8]) -> bool
 
 // How many data bytes the request has to have.
 fn needed(s: &[u8]) -> usize
-    ensures { result ≡ neededOf s.now }
+    ensures { result ≡ needed_of s.now }
 {
     let pid = opg_frames::pid_of(s);
     let cmd = opg_frames::cmd_of(s);
@@ -84,7 +84,7 @@ fn needed(s: &[u8]) -> usize
 }
 
 fn has_wrong_count(s: &[u8]) -> bool
-    ensures { result ≡ wrongCount s.now }
+    ensures { result ≡ wrong_count s.now }
 {
     opg_frames::count_of(s) != needed(s)
 }
@@ -126,7 +126,7 @@ fn meaning_of(s: &[u8]) -> Request
 }
 
 fn has_wrong_mode(s: &[u8]) -> bool
-    ensures { result ≡ wrongMode s.now }
+    ensures { result ≡ wrong_mode s.now }
 {
     if opg_frames::pid_of(s) != 22000 {
         return false;

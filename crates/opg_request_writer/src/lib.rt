@@ -1,14 +1,14 @@
 // The master's requests to an OPG, written into lent memory (document 01, "The master's side").
 ghost use Rattle.std.specs.Prelude.{◌≡◌, length};
 ghost use Rattle.buffer.specs.Answer.{Sent};
-ghost use Rattle.opg_commands.specs.Request.{requestCmd};
-ghost use Rattle.opg_request_writer.specs.Written.{requestWritten};
-ghost use Rattle.opg_request_writer.specs.Inner.{requestCount, requestBytes};
+ghost use Rattle.opg_commands.specs.Request.{request_cmd};
+ghost use Rattle.opg_request_writer.specs.Written.{request_written};
+ghost use Rattle.opg_request_writer.specs.Inner.{request_count, request_bytes};
 
 use opg_commands::Request;
 
 fn request_cmd(r: Request) -> u8
-    ensures { result ≡ requestCmd r }
+    ensures { result ≡ request_cmd r }
 {
     match r {
         Request::ReadPressure(_) => 1,
@@ -20,7 +20,7 @@ fn request_cmd(r: Request) -> u8
 }
 
 fn request_count(r: Request) -> usize
-    ensures { result ≡ requestCount r }
+    ensures { result ≡ request_count r }
 {
     match r {
         Request::ReadPressure(_) => 1,
@@ -33,7 +33,7 @@ fn request_count(r: Request) -> usize
 
 // The data of a request, filled up with zeros.
 fn request_bytes(r: Request) -> [u8; 6]
-    ensures { result ≡ requestBytes r }
+    ensures { result ≡ request_bytes r }
 {
     match r {
         Request::ReadPressure(u) => [u, 0, 0, 0, 0, 0],
@@ -53,7 +53,7 @@ fn request_bytes(r: Request) -> [u8; 6]
 
 // Writes a request. Refuses with 21 where less than 32 bytes are lent, then with 1002 for a value outside; then out stays as it was.
 pub fn write_request(out: &mut [u8], r: Request) -> buffer::Written
-    ensures { Sent out.old (requestWritten (length out.old) r) out.new result }
+    ensures { Sent out.old (request_written (length out.old) r) out.new result }
 {
     if out.len() < 32 {
         return buffer::Written { number: 21, len: 0 };

@@ -11,15 +11,15 @@ use lib.ListN.{length}
 use lib.Ieee.{of_bits, round, le}
 use Rattle.buffer.specs.Byte.{within}
 use Rattle.buffer.specs.First.{pick}
-use Rattle.buffer.proofs.Laws.{within-true}
+use Rattle.buffer.proofs.Laws.{within_true}
 use Rattle.history.specs.Latest.{or_else, latest}
 use Rattle.history.proofs.Latest.{follows}
-use Rattle.opg_frames.specs.Frame.{cmdOf, pidOf, dataAt}
-use Rattle.opg_units.specs.Units.{finite, measurable, bitsIn}
-use Rattle.opg_commands.specs.Limits.{unitLow, unitHigh, modeHigh, gasHigh}
+use Rattle.opg_frames.specs.Frame.{cmd_of, pid_of, data_at}
+use Rattle.opg_units.specs.Units.{finite, measurable, bits_in}
+use Rattle.opg_commands.specs.Limits.{unit_low, unit_high, mode_high, gas_high}
 use Rattle.opg_commands.specs.Settings.{factory, entered}
 use Rattle.opg_commands.specs.declared.Settings.{Settings}
-use Rattle.opg_request_reader.specs.Asked.{unknownCmd, unknownPid, lacksAccess, meaning, wrongMode}
+use Rattle.opg_request_reader.specs.Asked.{unknown_cmd, unknown_pid, lacks_access, meaning, wrong_mode}
 use Rattle.opg_request_reader.specs.declared.Asked.{Asked}
 use Rattle.opg_gauge.specs.State.{start, takes}
 use Rattle.opg_gauge.specs.State as State
@@ -29,12 +29,12 @@ use Rattle.opg_gauge.specs.declared.Gauge.{Gauge}
 use Rattle.opg_gauge.specs.declared.Pressure.{Pressure}
 use Rattle.opg_gauge.specs.declared.Pressure.TheVariants.{Bits, Unavailable}
 use Rattle.opg_answer.specs.Reply.{bits_of, answer_of, after_of}
-use Rattle.opg_facts.specs.Accepted.{isAccepted, sound}
-use Rattle.opg_facts.proofs.Accepted.{judged, accepted-number, Passed, passed, pressure-stays, factory-sound, stays-sound}
-use Rattle.opg_facts.proofs.Lengths.{within-lent}
-use Rattle.opg_facts.proofs.Finite.{sent-finite}
+use Rattle.opg_facts.specs.Accepted.{is_accepted, sound}
+use Rattle.opg_facts.proofs.Accepted.{judged, accepted_number, Passed, passed, pressure_stays, factory_sound, stays_sound}
+use Rattle.opg_facts.proofs.Lengths.{within_lent}
+use Rattle.opg_facts.proofs.Finite.{sent_finite}
 use Rattle.opg_sequence_facts.specs.Model.{request, bench, Model, held, step}
-use Rattle.opg_sequence_facts.specs.Sequence.{asked, benchSet, History, model, Trace, begin, ask, setBench, Fixed, AllFixed, Key, MasterUnit, Mode, Spectra, Gas, holding, isWrite, writes, saysSetting, saysPressure, Within}
+use Rattle.opg_sequence_facts.specs.Sequence.{asked, bench_set, History, model, Trace, begin, ask, set_bench, Fixed, AllFixed, Key, MasterUnit, Mode, Spectra, Gas, holding, is_write, writes, says_setting, says_pressure, Within}
 use Rattle.opg_sequence_facts.specs.Theorems.{Claimed}
 
 -- ---- an accepted request writes what its bytes say
@@ -44,36 +44,36 @@ module _ (st : Settings) (s : List ℕ) where
   Enters : Key → Type 0
   Enters k = holding k (entered st (meaning s)) ≡ or_else (writes k s) (holding k st)
 
-  enters-pressure : (k : Key) → pidOf s ≡ 14000 → Enters k
-  unfolding Enters meaning entered writes isWrite or_else pick pidOf
-  enters-pressure MasterUnit p = rw p
-  enters-pressure Mode p = rw p
-  enters-pressure Spectra p = rw p
-  enters-pressure Gas p = rw p
+  enters_pressure : (k : Key) → pid_of s ≡ 14000 → Enters k
+  unfolding Enters meaning entered writes is_write or_else pick pid_of
+  enters_pressure MasterUnit p = rw p
+  enters_pressure Mode p = rw p
+  enters_pressure Spectra p = rw p
+  enters_pressure Gas p = rw p
 
-  enters-read : (k : Key) → pidOf s ≡ 14001 → cmdOf s ≡ 1 → Enters k
-  unfolding Enters meaning entered writes isWrite or_else pick pidOf cmdOf
-  enters-read MasterUnit p c = rw (p, c)
-  enters-read Mode p c = rw (p, c)
-  enters-read Spectra p c = rw (p, c)
-  enters-read Gas p c = rw (p, c)
+  enters_read : (k : Key) → pid_of s ≡ 14001 → cmd_of s ≡ 1 → Enters k
+  unfolding Enters meaning entered writes is_write or_else pick pid_of cmd_of
+  enters_read MasterUnit p c = rw (p, c)
+  enters_read Mode p c = rw (p, c)
+  enters_read Spectra p c = rw (p, c)
+  enters_read Gas p c = rw (p, c)
 
-  enters-unit : (k : Key) → pidOf s ≡ 14001 → cmdOf s ≡ 3 → Enters k
-  unfolding Enters meaning entered writes isWrite or_else pick pidOf cmdOf
-  enters-unit MasterUnit p c = rw (p, c)
-  enters-unit Mode p c = rw (p, c)
-  enters-unit Spectra p c = rw (p, c)
-  enters-unit Gas p c = rw (p, c)
+  enters_unit : (k : Key) → pid_of s ≡ 14001 → cmd_of s ≡ 3 → Enters k
+  unfolding Enters meaning entered writes is_write or_else pick pid_of cmd_of
+  enters_unit MasterUnit p c = rw (p, c)
+  enters_unit Mode p c = rw (p, c)
+  enters_unit Spectra p c = rw (p, c)
+  enters_unit Gas p c = rw (p, c)
 
-  enters-off : (k : Key) → pidOf s ≡ 22000 → cmdOf s ≡ 3 → dataAt s 0 ≡ 0 → Enters k
-  unfolding Enters meaning entered writes isWrite or_else pick pidOf cmdOf
-  enters-off MasterUnit p c d = rw (p, d)
-  enters-off Mode p c d = rw (p, c, d)
-  enters-off Spectra p c d = rw (p, c, d)
-  enters-off Gas p c d = rw (p, c, d)
+  enters_off : (k : Key) → pid_of s ≡ 22000 → cmd_of s ≡ 3 → data_at s 0 ≡ 0 → Enters k
+  unfolding Enters meaning entered writes is_write or_else pick pid_of cmd_of
+  enters_off MasterUnit p c d = rw (p, d)
+  enters_off Mode p c d = rw (p, c, d)
+  enters_off Spectra p c d = rw (p, c, d)
+  enters_off Gas p c d = rw (p, c, d)
 
-  enters_on : (k : Key) → pidOf s ≡ 22000 → cmdOf s ≡ 3 → dataAt s 0 ≡ 1 → Enters k
-  unfolding Enters meaning entered writes isWrite or_else pick pidOf cmdOf
+  enters_on : (k : Key) → pid_of s ≡ 22000 → cmd_of s ≡ 3 → data_at s 0 ≡ 1 → Enters k
+  unfolding Enters meaning entered writes is_write or_else pick pid_of cmd_of
   enters_on MasterUnit p c d = rw (p, d)
   enters_on Mode p c d = rw (p, c, d)
   enters_on Spectra p c d = rw (p, c, d)
@@ -81,24 +81,24 @@ module _ (st : Settings) (s : List ℕ) where
 
   -- the bytes passed document 01's checks of CMD, PID, access and value
   enters : (k : Key) → Passed s → Enters k
-  unfolding unknownCmd unknownPid lacksAccess wrongMode
+  unfolding unknown_cmd unknown_pid lacks_access wrong_mode
   enters k p =
-      go (eqb (pidOf s) 14000) (eqb (pidOf s) 14001) (eqb (pidOf s) 22000) (eqb (cmdOf s) 1) (eqb (cmdOf s) 3) (eqb (dataAt s 0) 0) refl refl refl refl refl refl
+      go (eqb (pid_of s) 14000) (eqb (pid_of s) 14001) (eqb (pid_of s) 22000) (eqb (cmd_of s) 1) (eqb (cmd_of s) 3) (eqb (data_at s 0) 0) refl refl refl refl refl refl
       p.cmd p.pid p.access p.mode
     where
-      one : eqb (dataAt s 0) 0 ≡ false → not (within 0 modeHigh (dataAt s 0)) ≡ false → dataAt s 0 ≡ 1
-      one z w = omega (arith, eqb-false (dataAt s 0) 0 z, (within-true 0 modeHigh (dataAt s 0) (not-false (within 0 modeHigh (dataAt s 0)) w)).1)
+      one : eqb (data_at s 0) 0 ≡ false → not (within 0 mode_high (data_at s 0)) ≡ false → data_at s 0 ≡ 1
+      one z w = omega (arith, eqb-false (data_at s 0) 0 z, (within_true 0 mode_high (data_at s 0) (not-false (within 0 mode_high (data_at s 0)) w)).1)
 
-      go : (a b c d e z : Bool) → eqb (pidOf s) 14000 ≡ a → eqb (pidOf s) 14001 ≡ b → eqb (pidOf s) 22000 ≡ c → eqb (cmdOf s) 1 ≡ d → eqb (cmdOf s) 3 ≡ e
-          → eqb (dataAt s 0) 0 ≡ z → not (d || e) ≡ false → not (a || (b || c)) ≡ false → ((a && e) || (c && d)) ≡ false
-          → (c && not (within 0 modeHigh (dataAt s 0))) ≡ false → Enters k
-      go true b c d e z pa pb pc pd pe pz uc up la wm = enters-pressure k (eqb-true _ _ pa)
-      go false true c true e z pa pb pc pd pe pz uc up la wm = enters-read k (eqb-true _ _ pb) (eqb-true _ _ pd)
-      go false true c false true z pa pb pc pd pe pz uc up la wm = enters-unit k (eqb-true _ _ pb) (eqb-true _ _ pe)
+      go : (a b c d e z : Bool) → eqb (pid_of s) 14000 ≡ a → eqb (pid_of s) 14001 ≡ b → eqb (pid_of s) 22000 ≡ c → eqb (cmd_of s) 1 ≡ d → eqb (cmd_of s) 3 ≡ e
+          → eqb (data_at s 0) 0 ≡ z → not (d || e) ≡ false → not (a || (b || c)) ≡ false → ((a && e) || (c && d)) ≡ false
+          → (c && not (within 0 mode_high (data_at s 0))) ≡ false → Enters k
+      go true b c d e z pa pb pc pd pe pz uc up la wm = enters_pressure k (eqb-true _ _ pa)
+      go false true c true e z pa pb pc pd pe pz uc up la wm = enters_read k (eqb-true _ _ pb) (eqb-true _ _ pd)
+      go false true c false true z pa pb pc pd pe pz uc up la wm = enters_unit k (eqb-true _ _ pb) (eqb-true _ _ pe)
       go false true c false false z pa pb pc pd pe pz uc up la wm = absurd (true≢false uc)
       go false false true true e z pa pb pc pd pe pz uc up la wm = absurd (true≢false la)
       go false false true false false z pa pb pc pd pe pz uc up la wm = absurd (true≢false uc)
-      go false false true false true true pa pb pc pd pe pz uc up la wm = enters-off k (eqb-true _ _ pc) (eqb-true _ _ pe) (eqb-true _ _ pz)
+      go false false true false true true pa pb pc pd pe pz uc up la wm = enters_off k (eqb-true _ _ pc) (eqb-true _ _ pe) (eqb-true _ _ pz)
       go false false true false true false pa pb pc pd pe pz uc up la wm = enters_on k (eqb-true _ _ pc) (eqb-true _ _ pe) (one pz wm)
       go false false false d e z pa pb pc pd pe pz uc up la wm = absurd (true≢false up)
 
@@ -107,17 +107,17 @@ module _ (st : Settings) (s : List ℕ) where
 module _ (g : Gauge) (s : List ℕ) (k : Key) where
   -- a setting after what the gauge judged: what the bytes write to it if that is a request, or as it was
   Moves : Asked → Type 0
-  Moves a = holding k (after g a).settings ≡ or_else (pick (isAccepted a) (writes k s) none) (holding k g.settings)
+  Moves a = holding k (after g a).settings ≡ or_else (pick (is_accepted a) (writes k s) none) (holding k g.settings)
 
   moves : (room : ℕ) → Moves (judgement room g s)
-  unfolding Moves Enters after isAccepted or_else pick
+  unfolding Moves Enters after is_accepted or_else pick
   moves room = judged Moves room g s (λ _. refl) (λ _. refl) (λ n. enters g.settings s k (passed room g s n))
 
   -- by the answered number
-  setting-next : (room n : ℕ) → n ≡ (answer_of room g s).number
+  setting_next : (room n : ℕ) → n ≡ (answer_of room g s).number
       → holding k (after_of room g s).settings ≡ or_else (pick (eqb n 20) (writes k s) none) (holding k g.settings)
   unfolding after_of Moves
-  setting-next room n e = rw (e, accepted-number room g s) (moves room)
+  setting_next room n e = rw (e, accepted_number room g s) (moves room)
 
 -- ---- one bench setting
 
@@ -126,26 +126,26 @@ module _ (g : Gauge) (p : Pressure) where
   abbrev answered : Bool → BenchAnswer
   answered b = pick b (record { gauge = record { settings = g.settings; pressure = p }; number = 20 }) (record { gauge = g; number = 15 })
 
-  bench-settings : (State.benched g p).gauge.settings ≡ g.settings
+  bench_settings : (State.benched g p).gauge.settings ≡ g.settings
   unfolding State.benched pick
-  bench-settings = go (takes p)
+  bench_settings = go (takes p)
     where
       go : (b : Bool) → (answered b).gauge.settings ≡ g.settings
       go true = refl
       go false = refl
 
   -- by the answered number
-  bench-pressure : (State.benched g p).gauge.pressure ≡ or_else (saysPressure (benchSet p (State.benched g p).number)) g.pressure
-  unfolding State.benched pick saysPressure or_else
-  bench-pressure = go (takes p)
+  bench_pressure : (State.benched g p).gauge.pressure ≡ or_else (says_pressure (bench_set p (State.benched g p).number)) g.pressure
+  unfolding State.benched pick says_pressure or_else
+  bench_pressure = go (takes p)
     where
-      go : (b : Bool) → (answered b).gauge.pressure ≡ or_else (saysPressure (benchSet p (answered b).number)) g.pressure
+      go : (b : Bool) → (answered b).gauge.pressure ≡ or_else (says_pressure (bench_set p (answered b).number)) g.pressure
       go true = refl
       go false = refl
 
-  bench-takes : takes g.pressure ≡ true → takes (State.benched g p).gauge.pressure ≡ true
+  bench_takes : takes g.pressure ≡ true → takes (State.benched g p).gauge.pressure ≡ true
   unfolding State.benched pick
-  bench-takes h = go (takes p) refl
+  bench_takes h = go (takes p) refl
     where
       go : (b : Bool) → takes p ≡ b → takes (answered b).gauge.pressure ≡ true
       go true e = e
@@ -153,29 +153,29 @@ module _ (g : Gauge) (p : Pressure) where
 
 -- ---- limits
 
-takes-start : takes (Bits 0) ≡ true
+takes_start : takes (Bits 0) ≡ true
 unfolding takes measurable finite round le of_bits
-takes-start = refl
+takes_start = refl
 
-sends-finite : (p : Pressure) (unit : ℕ) → takes p ≡ true → finite (bitsIn unit (bits_of p)) ≡ true
+sends_finite : (p : Pressure) (unit : ℕ) → takes p ≡ true → finite (bits_in unit (bits_of p)) ≡ true
 unfolding takes bits_of
-sends-finite (Bits w) unit h = sent-finite unit w h
-sends-finite Unavailable unit h = sent-finite unit 0 takes-start
+sends_finite (Bits w) unit h = sent_finite unit w h
+sends_finite Unavailable unit h = sent_finite unit 0 takes_start
 
-within-limits : (g : Gauge) → sound g.settings ≡ true → takes g.pressure ≡ true → Within g
+within_limits : (g : Gauge) → sound g.settings ≡ true → takes g.pressure ≡ true → Within g
 unfolding sound
-within-limits g h t =
+within_limits g h t =
     let s = g.settings in
-    let both = (and-eq-true_iff (within unitLow unitHigh s.unit) (leb s.mode modeHigh && leb s.gas gasHigh)).0 h in
-    let unit = within-true unitLow unitHigh s.unit both.0 in
-    let rest = (and-eq-true_iff (leb s.mode modeHigh) (leb s.gas gasHigh)).0 both.1 in
+    let both = (and-eq-true_iff (within unit_low unit_high s.unit) (leb s.mode mode_high && leb s.gas gas_high)).0 h in
+    let unit = within_true unit_low unit_high s.unit both.0 in
+    let rest = (and-eq-true_iff (leb s.mode mode_high) (leb s.gas gas_high)).0 both.1 in
     record {
-      unit-low = unit.0;
-      unit-high = unit.1;
-      mode-high = leb-true s.mode modeHigh rest.0;
-      gas-high = leb-true s.gas gasHigh rest.1;
-      pressure-taken = t;
-      pressure-finite = λ (u : ℕ). sends-finite g.pressure u t;
+      unit_low_lem = unit.0;
+      unit_high_lem = unit.1;
+      mode_high_lem = leb-true s.mode mode_high rest.0;
+      gas_high_lem = leb-true s.gas gas_high rest.1;
+      pressure_taken = t;
+      pressure_finite = λ (u : ℕ). sends_finite g.pressure u t;
     }
 
 -- ---- the sequence
@@ -184,47 +184,47 @@ within-limits g h t =
 record Sofar (h : History) (g : Gauge) : Type 0 where
   answers : AllFixed h
   holds : held g ≡ model h
-  setting : (key : Key) → holding key g.settings ≡ latest (saysSetting key) (holding key factory) h
-  pressure : g.pressure ≡ latest saysPressure start.pressure h
-  in-limits : sound g.settings ≡ true
+  setting : (key : Key) → holding key g.settings ≡ latest (says_setting key) (holding key factory) h
+  pressure : g.pressure ≡ latest says_pressure start.pressure h
+  in_limits : sound g.settings ≡ true
   taken : takes g.pressure ≡ true
 
 sofar : {h : History} {g : Gauge} → Trace h g → Sofar h g
-unfolding latest saysSetting saysPressure or_else
+unfolding latest says_setting says_pressure or_else
 sofar (begin {r} e) =
     record {
       answers = tt;
       holds = ap held e;
       setting = λ key. ap (λ (x : Gauge). holding key x.settings) e;
       pressure = ap (λ (x : Gauge). x.pressure) e;
-      in-limits = rw e factory-sound;
-      taken = rw e takes-start;
+      in_limits = rw e factory_sound;
+      taken = rw e takes_start;
     }
 sofar (ask {h} {g} {s} {before} {after} {r} t (sent, moved)) =
     let c = sofar t in
     let room = length before in
     let e = asked s before r.written.number r.written.len after in
     record {
-      answers = (subst (λ (m : Model). Fixed m e) c.holds (sent, rw sent.len (within-lent room g s)), c.answers);
+      answers = (subst (λ (m : Model). Fixed m e) c.holds (sent, rw sent.len (within_lent room g s)), c.answers);
       holds = ap held moved ∙ ap (λ (m : Model). step m (request s room)) c.holds;
-      setting = λ key. follows (saysSetting key) (holding key factory) e h _ _ (c.setting key) (ap (λ (x : Gauge). holding key x.settings) moved ∙ setting-next g s key room r.written.number sent.number);
-      pressure = ap (λ (x : Gauge). x.pressure) moved ∙ pressure-stays room g s ∙ c.pressure;
-      in-limits = rw moved (stays-sound room g s c.in-limits);
-      taken = rw (moved, pressure-stays room g s) c.taken;
+      setting = λ key. follows (says_setting key) (holding key factory) e h _ _ (c.setting key) (ap (λ (x : Gauge). holding key x.settings) moved ∙ setting_next g s key room r.written.number sent.number);
+      pressure = ap (λ (x : Gauge). x.pressure) moved ∙ pressure_stays room g s ∙ c.pressure;
+      in_limits = rw moved (stays_sound room g s c.in_limits);
+      taken = rw (moved, pressure_stays room g s) c.taken;
     }
-sofar (setBench {h} {g} {p} {r} t e) =
+sofar (set_bench {h} {g} {p} {r} t e) =
     let c = sofar t in
     record {
-      answers = (subst (λ (m : Model). Fixed m (benchSet p r.number)) c.holds (ap (λ (x : BenchAnswer). x.number) e), c.answers);
+      answers = (subst (λ (m : Model). Fixed m (bench_set p r.number)) c.holds (ap (λ (x : BenchAnswer). x.number) e), c.answers);
       holds = ap (λ (x : BenchAnswer). held x.gauge) e ∙ ap (λ (m : Model). step m (bench p)) c.holds;
-      setting = λ key. ap (λ (x : BenchAnswer). holding key x.gauge.settings) e ∙ ap (holding key) (bench-settings g p) ∙ c.setting key;
-      pressure = follows saysPressure start.pressure (benchSet p r.number) h g.pressure r.gauge.pressure c.pressure (rw e (bench-pressure g p));
-      in-limits = rw (e, bench-settings g p) c.in-limits;
-      taken = rw e (bench-takes g p c.taken);
+      setting = λ key. ap (λ (x : BenchAnswer). holding key x.gauge.settings) e ∙ ap (holding key) (bench_settings g p) ∙ c.setting key;
+      pressure = follows says_pressure start.pressure (bench_set p r.number) h g.pressure r.gauge.pressure c.pressure (rw e (bench_pressure g p));
+      in_limits = rw (e, bench_settings g p) c.in_limits;
+      taken = rw e (bench_takes g p c.taken);
     }
 
 -- THE THEOREM
 pub claimed : Claimed
 claimed h g t =
     let c = sofar t in
-    record { answers = c.answers; holds = c.holds; setting = c.setting; pressure = c.pressure; within = within-limits g c.in-limits c.taken }
+    record { answers = c.answers; holds = c.holds; setting = c.setting; pressure = c.pressure; within = within_limits g c.in_limits c.taken }

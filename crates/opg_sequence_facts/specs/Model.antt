@@ -24,16 +24,16 @@ abbrev pub held : Gauge → Model
 held g =
     record { unit = g.settings.unit; mode = g.settings.mode; spectra = g.settings.spectra; gas = g.settings.gas; pressure = g.pressure }
 
-abbrev pub gaugeOf : Model → Gauge
-gaugeOf m = record { settings = record { unit = m.unit; mode = m.mode; spectra = m.spectra; gas = m.gas }; pressure = m.pressure }
+abbrev pub gauge_of : Model → Gauge
+gauge_of m = record { settings = record { unit = m.unit; mode = m.mode; spectra = m.spectra; gas = m.gas }; pressure = m.pressure }
 
 -- "The rules above, applied to what it holds, fix each call's number and reply. Then an accepted write .. or bench setting enters what it sets;
 -- .. all else stays."
 abbrev pub step : Model → Fed → Model
-step m (request s lent) = held (after_of lent (gaugeOf m) s)
-step m (bench p) = held (benched (gaugeOf m) p).gauge
+step m (request s lent) = held (after_of lent (gauge_of m) s)
+step m (bench p) = held (benched (gauge_of m) p).gauge
 
 -- what it holds after these, the latest first
-abbrev pub modelOf : List Fed → Model
-modelOf [] = held start
-modelOf (f ∷ fs) = step (modelOf fs) f
+abbrev pub model_of : List Fed → Model
+model_of [] = held start
+model_of (f ∷ fs) = step (model_of fs) f

@@ -7,8 +7,8 @@ use Rattle.opg_gauge.specs.declared.Pressure.TheVariants.{Bits}
 use Rattle.opg_answer.specs.Reply.{answer_of, after_of}
 use Rattle.opg_answer.specs.declared.Answered.{Answered}
 use Rattle.opg_facts.specs.Examples.{hex}
-use Rattle.opg_sequence_facts.specs.Model.{Model, gaugeOf}
-use Rattle.opg_sequence_facts.specs.Sequence.{Exchange, asked, benchSet, History, model}
+use Rattle.opg_sequence_facts.specs.Model.{Model, gauge_of}
+use Rattle.opg_sequence_facts.specs.Sequence.{Exchange, asked, bench_set, History, model}
 
 -- a call before it is answered: a request with the memory lent, or a pressure that the bench offers
 pub data Call : Type 0 where
@@ -17,21 +17,21 @@ pub data Call : Type 0 where
 
 abbrev pub call_of : Exchange → Call
 call_of (asked s before number len after) = asks s before
-call_of (benchSet p number) = tells p
+call_of (bench_set p number) = tells p
 
 -- what `answer` returns where the model holds this
 abbrev pub answered : Model → List ℕ → List ℕ → Answered
 answered m s before =
     record {
-      gauge = after_of (length before) (gaugeOf m) s;
-      written = record { number = (answer_of (length before) (gaugeOf m) s).number; len = length (answer_of (length before) (gaugeOf m) s).reply };
+      gauge = after_of (length before) (gauge_of m) s;
+      written = record { number = (answer_of (length before) (gauge_of m) s).number; len = length (answer_of (length before) (gauge_of m) s).reply };
     }
 
 -- a call with the answer that the rules fix
 abbrev pub exchange : Model → Call → Exchange
 exchange m (asks s before) =
-    asked s before (answered m s before).written.number (answered m s before).written.len (over (answer_of (length before) (gaugeOf m) s).reply before)
-exchange m (tells p) = benchSet p (State.benched (gaugeOf m) p).number
+    asked s before (answered m s before).written.number (answered m s before).written.len (over (answer_of (length before) (gauge_of m) s).reply before)
+exchange m (tells p) = bench_set p (State.benched (gauge_of m) p).number
 
 -- the history of any calls, the latest first
 abbrev pub play : List Call → History
@@ -54,12 +54,12 @@ calls =
     ∷ asks (hex "00 00 20 00 06 03 36 B1 00 00 02 DE E2") (replicate 33 7)
     ∷ []
 
-abbrev pub answeredNumber : Exchange → ℕ
-answeredNumber (asked s before number len after) = number
-answeredNumber (benchSet p number) = number
+abbrev pub answered_number : Exchange → ℕ
+answered_number (asked s before number len after) = number
+answered_number (bench_set p number) = number
 
 -- the memory after the latest call
-abbrev pub memoryOf : History → List ℕ
-memoryOf [] = []
-memoryOf (asked s before number len after ∷ h) = after
-memoryOf (benchSet p number ∷ h) = []
+abbrev pub memory_of : History → List ℕ
+memory_of [] = []
+memory_of (asked s before number len after ∷ h) = after
+memory_of (bench_set p number ∷ h) = []

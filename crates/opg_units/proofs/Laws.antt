@@ -11,9 +11,9 @@ use Rattle.opg_units.specs.Units.{finite, nearest32, torr, pascal, micron}
 -- ---- no NaN
 
 -- bits that are finite are no NaN's
-pub bits-no-nan : (w : ℕ) → finite w ≡ true → T (not (nan_bits binary32 w))
+pub bits_no_nan : (w : ℕ) → finite w ≡ true → T (not (nan_bits binary32 w))
 unfolding finite nan_bits
-bits-no-nan w h =
+bits_no_nan w h =
     let field : w % 2147483648 / 8388608 ≡ w / 8388608 % 256 = omega arith in
     let differs : eqb (w / 8388608 % 256) 255 ≡ false = flip _ h in
     rw (field, differs) tt
@@ -22,13 +22,13 @@ bits-no-nan w h =
     flip true e = absurd (true≢false (sym e))
     flip false e = refl
 
-pub float-no-nan : (w : ℕ) → finite w ≡ true → T (not (is_nan (of_bits binary32 w)))
-float-no-nan w h = rw (nan_bits_is binary32 w) at (bits-no-nan w h)
+pub float_no_nan : (w : ℕ) → finite w ≡ true → T (not (is_nan (of_bits binary32 w)))
+float_no_nan w h = rw (nan_bits_is binary32 w) at (bits_no_nan w h)
 
 -- rounding a fraction gives no NaN
-round-no-nan : (f : Format) (s : Bool) (num den : ℕ) → T (not (is_nan (round f s num den)))
+round_no_nan : (f : Format) (s : Bool) (num den : ℕ) → T (not (is_nan (round f s num den)))
 unfolding round units odd is_nan
-round-no-nan f s num den =
+round_no_nan f s num den =
     let n = num * 2 ^ low f in
     let k = size (n / den) - prec f in
     let u = den * 2 ^ k in
@@ -64,7 +64,7 @@ times f (inf s) (fin t n d) p h = go (eqb n 0) (unlike s t) p
     go false s h = tt
 times f (fin s m e) nan p h = absurd p
 times f (fin s m e) (inf t) p h = absurd p
-times f (fin s m e) (fin t n d) p h = round-no-nan f (unlike s t) (m * up e * (n * up d)) (down e * down d)
+times f (fin s m e) (fin t n d) p h = round_no_nan f (unlike s t) (m * up e * (n * up d)) (down e * down d)
 
 -- ---- the program's literals
 
@@ -73,21 +73,21 @@ pub record Literal (bits : ℕ) (factor : Float) : Type 0 where
   pub value : of_bits binary32 bits ≡ factor
   pub plainly : T (plain (of_bits binary32 bits))
 
-pub torr-literal : Literal 0x3f40040b torr
+pub torr_literal : Literal 0x3f40040b torr
 unfolding torr of_bits round
-torr-literal = record { value = refl; plainly = tt }
+torr_literal = record { value = refl; plainly = tt }
 
-pub pascal-literal : Literal 0x42c80000 pascal
+pub pascal_literal : Literal 0x42c80000 pascal
 unfolding pascal of_bits round
-pascal-literal = record { value = refl; plainly = tt }
+pascal_literal = record { value = refl; plainly = tt }
 
-pub micron-literal : Literal 0x443b83f3 micron
+pub micron_literal : Literal 0x443b83f3 micron
 unfolding micron of_bits round
-micron-literal = record { value = refl; plainly = tt }
+micron_literal = record { value = refl; plainly = tt }
 
-pub limit-literal : of_bits binary32 0x44fa0000 ≡ nearest32 2000 1
+pub limit_literal : of_bits binary32 0x44fa0000 ≡ nearest32 2000 1
 unfolding of_bits round
-limit-literal = refl
+limit_literal = refl
 
-pub product-no-nan : {bits : ℕ} {factor : Float} → Literal bits factor → (w : ℕ) → finite w ≡ true → T (not (is_nan (mul binary32 (of_bits binary32 w) (of_bits binary32 bits))))
-product-no-nan {bits} l w h = times binary32 (of_bits binary32 w) (of_bits binary32 bits) l.plainly (float-no-nan w h)
+pub product_no_nan : {bits : ℕ} {factor : Float} → Literal bits factor → (w : ℕ) → finite w ≡ true → T (not (is_nan (mul binary32 (of_bits binary32 w) (of_bits binary32 bits))))
+product_no_nan {bits} l w h = times binary32 (of_bits binary32 w) (of_bits binary32 bits) l.plainly (float_no_nan w h)

@@ -7,9 +7,9 @@ use Rattle.opg_units.specs.Units.{torr, pascal, micron}
 -- "Torr is one f32 product with the f32 nearest 0.75006168, Pascal with 100, micron with the f32 nearest 750.06168": the factors are
 -- 12583947 x 2^-24, 25 x 2^2 and 12289011 x 2^-14
 pub record Factors : Type 0 where
-  pub torr-is : torr ≡ fin false 12583947 (negsuc 23)
-  pub pascal-is : pascal ≡ fin false 25 (pos 2)
-  pub micron-is : micron ≡ fin false 12289011 (negsuc 13)
+  pub torr_is : torr ≡ fin false 12583947 (negsuc 23)
+  pub pascal_is : pascal ≡ fin false 25 (pos 2)
+  pub micron_is : micron ≡ fin false 12289011 (negsuc 13)
 
 -- m / 2^k, of 24 digits, lies within half of its last digit of num / den
 abbrev pub nearest : ℕ → ℕ → ℕ → ℕ → Bool

@@ -32,8 +32,8 @@ product factor w = to_bits binary32 (mul binary32 (of_bits binary32 w) factor)
 
 -- the bits that are sent: units are 1 mbar, 2 Torr, 3 Pascal, 4 micron; "mbar is the stored bits". (Bits that are not finite, which the
 -- bench never stores, are sent as they are.)
-unfoldable pub bitsIn : ℕ → ℕ → ℕ
-bitsIn unit w =
+unfoldable pub bits_in : ℕ → ℕ → ℕ
+bits_in unit w =
     first
     (not (finite w) ⇒ w
     ∷ eqb unit 2 ⇒ product torr w

@@ -1,6 +1,6 @@
 // Pressures of the OPG (document 01, "OPG frames"): an f32 by its 32 bits, in each unit.
 ghost use Rattle.std.specs.Prelude.{◌≡◌};
-ghost use Rattle.opg_units.specs.Units.{finite, measurable, bitsIn};
+ghost use Rattle.opg_units.specs.Units.{finite, measurable, bits_in};
 
 // Whether 32 bits are those of a finite f32.
 pub fn is_finite(w: u32) -> bool
@@ -25,7 +25,7 @@ pub fn is_measurable(w: u32) -> bool
 // A pressure in mbar as it is sent in a unit: 2 Torr, 3 Pascal, 4 micron, any other mbar. Each product rounds once; in mbar it is
 // the stored bits. Bits that are not finite are sent as they are.
 pub fn in_unit(unit: u8, w: u32) -> u32
-    ensures { result ≡ bitsIn unit w }
+    ensures { result ≡ bits_in unit w }
 {
     if !is_finite(w) {
         return w;

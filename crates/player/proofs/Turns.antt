@@ -16,22 +16,22 @@ use Rattle.sequence_facts.proofs.Claimed as text
 use Rattle.opg_sequence_facts.proofs.Claimed as opg
 use Rattle.sequence_facts.proofs.Claimed as text
 use Rattle.opg_sequence_facts.proofs.Claimed as opg
-use Rattle.script.specs.Script.{call_at, roomOf}
+use Rattle.script.specs.Script.{call_at, room_of}
 use Rattle.script.specs.declared.To.{To}
 use Rattle.script.specs.declared.To.TheVariants.{Text, Opg}
 use Rattle.script.specs.declared.Call.{Call}
 use Rattle.script.specs.declared.Call.TheVariants.{Request, Line, SetBench, SetOpgBench, End}
 use Rattle.sources.specs.declared.Profile.{Profile}
-use Rattle.player.specs.Played.{Exchange, asked, lined, benchSet, opgBenchSet, History, answeredNumber, length_of, answerTo, line_for, benchNumberFor, opgBenchNumber, Standing, answered, made, advance}
+use Rattle.player.specs.Played.{Exchange, asked, lined, bench_set, opg_bench_set, History, answered_number, length_of, answer_to, line_for, bench_number_for, opg_bench_number, Standing, answered, made, advance}
 use Rattle.player.proofs.Advance.{advances, stands}
 use Rattle.player.specs.Inner.{Traces, Made, One}
 use Rattle.player.specs.declared.Gauges.{Gauges}
 use Rattle.player.specs.declared.Turn.{Turn}
 
 -- a reply is no longer than the memory lent
-pub reply-fits : {before after : List ℕ} {a : Answer} {w : Written} → Sent before a after w → length after ≡ length before → w.len ≤ length before
+pub reply_fits : {before after : List ℕ} {a : Answer} {w : Written} → Sent before a after w → length after ≡ length before → w.len ≤ length before
 unfolding over
-reply-fits {before} {after} {a} {w} f e =
+reply_fits {before} {after} {a} {w} f e =
     let long : length after ≡ length a.reply + length (drop (length a.reply) before) = ap length f.memory ∙ length-append a.reply (drop (length a.reply) before) in
     omega (arith, f.len)
 
@@ -39,31 +39,31 @@ reply-fits {before} {after} {a} {w} f e =
 abbrev turn : Gauges → ℕ → ℕ → ℕ → ℕ → Turn
 turn g at used n l = record { gauges = g; at = at; used = used; number = n; len = l; more = true }
 
-made_by : (g : Gauges) (e : ℕ → ℕ → Exchange) (g' : Gauges) (at used n l : ℕ) (r : Turn) → r ≡ turn g' at used n l → answeredNumber (e n l) ≡ n → length_of (e n l) ≡ l
+made_by : (g : Gauges) (e : ℕ → ℕ → Exchange) (g' : Gauges) (at used n l : ℕ) (r : Turn) → r ≡ turn g' at used n l → answered_number (e n l) ≡ n → length_of (e n l) ≡ l
     → ((profile : Profile) (h : History) → Traces profile h g → Traces profile (e n l ∷ h) g') → Made g (e r.number r.len) at used r
 made_by g e g' at used n l r q number length follows =
     subst (λ (r : Turn). Made g (e r.number r.len) at used r) (sym q)
-    (record { more-is = refl; at-is = refl; used-is = refl; number_is = sym number; length-is = sym length; follows = follows })
+    (record { more_is = refl; at_is = refl; used_is = refl; number_is = sym number; length_is = sym length; follows = follows })
 
 module _ {g g' : Gauges} {at used n : ℕ} {r : Turn} where
-  pub asked-made : (to : To) {l : ℕ} {s before after : List ℕ} → r ≡ turn g' at used n l
+  pub asked_made : (to : To) {l : ℕ} {s before after : List ℕ} → r ≡ turn g' at used n l
       → ((profile : Profile) (h : History) → Traces profile h g → Traces profile (asked to s before n l after ∷ h) g') → Made g (asked to s before r.number r.len after) at used r
-  asked-made to {l} {s} {before} {after} q f = made_by g (λ n l. asked to s before n l after) g' at used n l r q refl refl f
+  asked_made to {l} {s} {before} {after} q f = made_by g (λ n l. asked to s before n l after) g' at used n l r q refl refl f
 
-  pub lined-made : {l : ℕ} {before after : List ℕ} → r ≡ turn g' at used n l → ((profile : Profile) (h : History) → Traces profile h g → Traces profile (lined before n l after ∷ h) g')
+  pub lined_made : {l : ℕ} {before after : List ℕ} → r ≡ turn g' at used n l → ((profile : Profile) (h : History) → Traces profile h g → Traces profile (lined before n l after ∷ h) g')
       → Made g (lined before r.number r.len after) at used r
-  lined-made {l} {before} {after} q f = made_by g (λ n l. lined before n l after) g' at used n l r q refl refl f
+  lined_made {l} {before} {after} q f = made_by g (λ n l. lined before n l after) g' at used n l r q refl refl f
 
-  pub bench-set-made : {b : Bench} → r ≡ turn g' at used n 0 → ((profile : Profile) (h : History) → Traces profile h g → Traces profile (benchSet b n ∷ h) g') → Made g (benchSet b r.number) at used r
-  bench-set-made {b} q f = made_by g (λ n l. benchSet b n) g' at used n 0 r q refl refl f
+  pub bench_set_made : {b : Bench} → r ≡ turn g' at used n 0 → ((profile : Profile) (h : History) → Traces profile h g → Traces profile (bench_set b n ∷ h) g') → Made g (bench_set b r.number) at used r
+  bench_set_made {b} q f = made_by g (λ n l. bench_set b n) g' at used n 0 r q refl refl f
 
-  pub opg-bench-set-made : {p : Pressure} → r ≡ turn g' at used n 0 → ((profile : Profile) (h : History) → Traces profile h g → Traces profile (opgBenchSet p n ∷ h) g')
-      → Made g (opgBenchSet p r.number) at used r
-  opg-bench-set-made {p} q f = made_by g (λ n l. opgBenchSet p n) g' at used n 0 r q refl refl f
+  pub opg_bench_set_made : {p : Pressure} → r ≡ turn g' at used n 0 → ((profile : Profile) (h : History) → Traces profile h g → Traces profile (opg_bench_set p n ∷ h) g')
+      → Made g (opg_bench_set p r.number) at used r
+  opg_bench_set_made {p} q f = made_by g (λ n l. opg_bench_set p n) g' at used n 0 r q refl refl f
 
 -- a part lent has as many bytes as its call says
-pub part-short : (memory : List ℕ) (used room : ℕ) → room < 65536 → length (take (used + room - used) (drop used memory)) < 65536
-part-short memory used room h = simp length-take (omega arith)
+pub part_short : (memory : List ℕ) (used room : ℕ) → room < 65536 → length (take (used + room - used) (drop used memory)) < 65536
+part_short memory used room h = simp length-take (omega arith)
 
 -- the call x that was read is k, with what holds of it
 pub read : (P : Call → Type 0) (x : Call) {r k : Call} → (r ≡ x) × P r → r ≡ k → (x ≡ k) × P k
@@ -71,20 +71,20 @@ read P x e q = (sym e.0 ∙ q, subst P q e.1)
 
 -- ---- the answers are those that the rules fix
 
-asked-fixed : (profile : Profile) (to : To) {g : Gauges} {h : History} {s before after : List ℕ} {n l : ℕ} → Traces profile (asked to s before n l after ∷ h) g
-    → Sent before (answerTo profile to h (length before) s) after (record { number = n; len = l }) × (l ≤ length before)
-asked-fixed profile Text t = (text.claimed-of profile _ _ t.of-text-gauge).0.answers.0
-asked-fixed profile Opg t = (opg.claimed _ _ t.of-opg-gauge).answers.0
+asked_fixed : (profile : Profile) (to : To) {g : Gauges} {h : History} {s before after : List ℕ} {n l : ℕ} → Traces profile (asked to s before n l after ∷ h) g
+    → Sent before (answer_to profile to h (length before) s) after (record { number = n; len = l }) × (l ≤ length before)
+asked_fixed profile Text t = (text.claimed_of profile _ _ t.of_text_gauge).0.answers.0
+asked_fixed profile Opg t = (opg.claimed _ _ t.of_opg_gauge).answers.0
 
-lined-fixed : (profile : Profile) {g : Gauges} {h : History} {before after : List ℕ} {n l : ℕ} → Traces profile (lined before n l after ∷ h) g
+lined_fixed : (profile : Profile) {g : Gauges} {h : History} {before after : List ℕ} {n l : ℕ} → Traces profile (lined before n l after ∷ h) g
     → Sent before (line_for profile h (length before)) after (record { number = n; len = l }) × (l ≤ length before)
-lined-fixed profile t = (text.claimed-of profile _ _ t.of-text-gauge).0.answers.0
+lined_fixed profile t = (text.claimed_of profile _ _ t.of_text_gauge).0.answers.0
 
-bench-set-fixed : (profile : Profile) {g : Gauges} {h : History} {b : Bench} {n : ℕ} → Traces profile (benchSet b n ∷ h) g → n ≡ benchNumberFor profile h b
-bench-set-fixed profile t = (text.claimed-of profile _ _ t.of-text-gauge).0.answers.0
+bench_set_fixed : (profile : Profile) {g : Gauges} {h : History} {b : Bench} {n : ℕ} → Traces profile (bench_set b n ∷ h) g → n ≡ bench_number_for profile h b
+bench_set_fixed profile t = (text.claimed_of profile _ _ t.of_text_gauge).0.answers.0
 
-opg-bench-set-fixed : (profile : Profile) {g : Gauges} {h : History} {p : Pressure} {n : ℕ} → Traces profile (opgBenchSet p n ∷ h) g → n ≡ opgBenchNumber h p
-opg-bench-set-fixed profile t = (opg.claimed _ _ t.of-opg-gauge).answers.0
+opg_bench_set_fixed : (profile : Profile) {g : Gauges} {h : History} {p : Pressure} {n : ℕ} → Traces profile (opg_bench_set p n ∷ h) g → n ≡ opg_bench_number h p
+opg_bench_set_fixed profile t = (opg.claimed _ _ t.of_opg_gauge).answers.0
 
 -- ---- the memory
 
@@ -116,10 +116,10 @@ module _ (script memory : List ℕ) (g : Gauges) (at used : ℕ) where
   took_one e at' used' r memory' m h k f =
       inr (record {
         exchange = e;
-        made = record { more-is = m.more-is; at-is = refl; used-is = refl; number_is = m.number_is; length-is = m.length-is; follows = m.follows };
-        advances = λ profile h t. rw (m.at-is, m.used-is) (f profile h t);
-        at_in = rw m.at-is h;
-        used-in = rw m.used-is k;
+        made = record { more_is = m.more_is; at_is = refl; used_is = refl; number_is = m.number_is; length_is = m.length_is; follows = m.follows };
+        advances = λ profile h t. rw (m.at_is, m.used_is) (f profile h t);
+        at_in = rw m.at_is h;
+        used_in = rw m.used_is k;
       })
 
   -- a call that was lent a part of the memory, and left `after` in it
@@ -137,18 +137,18 @@ module _ (script memory : List ℕ) (g : Gauges) (at used : ℕ) where
       let x = f profile h t in
       x.advanced ∙ ap (λ (l : List ℕ). record { history = e ∷ h; at = at'; used = used + room; memory = l }) (sym (rw x.part-is (put_back memory x.answer.reply used room k x.fits))))
 
-  pub request-one : (to : To) (room len : ℕ) (after : List ℕ) (r : Turn) → at + 5 + len ≤ length script → call_at script at ≡ Request to room len
+  pub request_one : (to : To) (room len : ℕ) (after : List ℕ) (r : Turn) → at + 5 + len ≤ length script → call_at script at ≡ Request to room len
       → used + room ≤ length memory
       → Made g (asked to (take (at + 5 + len - (at + 5)) (drop (at + 5) script)) (take (used + room - used) (drop used memory)) r.number r.len after) (at + 5 + len) (used + room) r
       → One script memory g at used r (take used memory ++ (after ++ drop (used + room - used) (drop used memory)))
   unfolding made
-  request-one to room len after r h e fits m =
+  request_one to room len after r h e fits m =
       rw (add-sub_cancel_left used room)
       (lent_one _ room (at + 5 + len) after r n h fits
       (λ profile h t.
-      let f = asked-fixed profile to (n.follows profile h t) in
+      let f = asked_fixed profile to (n.follows profile h t) in
       record {
-        answer = answerTo profile to h (length before) request;
+        answer = answer_to profile to h (length before) request;
         advanced = advances profile script (standing h) (Request to room len) e fits ∙ sym (rw (f.0.number, f.0.len, f.0.memory));
         part-is = f.0.memory;
         fits = rw f.0.len at f.1;
@@ -163,15 +163,15 @@ module _ (script memory : List ℕ) (g : Gauges) (at used : ℕ) where
       n : Made g (asked to request before r.number r.len after) (at + 5 + len) (used + room) r
       n = rw (add-sub_cancel_left (at + 5) len, add-sub_cancel_left used room) at m
 
-  pub line-one : (room : ℕ) (after : List ℕ) (r : Turn) → at + 3 ≤ length script → call_at script at ≡ Line room → used + room ≤ length memory
+  pub line_one : (room : ℕ) (after : List ℕ) (r : Turn) → at + 3 ≤ length script → call_at script at ≡ Line room → used + room ≤ length memory
       → Made g (lined (take (used + room - used) (drop used memory)) r.number r.len after) (at + 3) (used + room) r
       → One script memory g at used r (take used memory ++ (after ++ drop (used + room - used) (drop used memory)))
   unfolding made
-  line-one room after r h e fits m =
+  line_one room after r h e fits m =
       rw (add-sub_cancel_left used room)
       (lent_one _ room (at + 3) after r n h fits
       (λ profile h t.
-      let f = lined-fixed profile (n.follows profile h t) in
+      let f = lined_fixed profile (n.follows profile h t) in
       record {
         answer = line_for profile h (length before);
         advanced = advances profile script (standing h) (Line room) e fits ∙ sym (rw (f.0.number, f.0.len, f.0.memory));
@@ -185,23 +185,23 @@ module _ (script memory : List ℕ) (g : Gauges) (at used : ℕ) where
       n : Made g (lined before r.number r.len after) (at + 3) (used + room) r
       n = rw (add-sub_cancel_left used room) at m
 
-  pub setting-one : (b : Bench) (r : Turn) → at + 10 ≤ length script → call_at script at ≡ SetBench b → used ≤ length memory
-      → Made g (benchSet b r.number) (at + 10) used r → One script memory g at used r memory
+  pub setting_one : (b : Bench) (r : Turn) → at + 10 ≤ length script → call_at script at ≡ SetBench b → used ≤ length memory
+      → Made g (bench_set b r.number) (at + 10) used r → One script memory g at used r memory
   unfolding made
-  setting-one b r h e fits m =
-      took_one (benchSet b r.number) (at + 10) used r memory m h fits (λ profile h t. advances profile script (standing h) (SetBench b) e (omega arith) ∙ sym (rw (bench-set-fixed profile (m.follows profile h t))))
+  setting_one b r h e fits m =
+      took_one (bench_set b r.number) (at + 10) used r memory m h fits (λ profile h t. advances profile script (standing h) (SetBench b) e (omega arith) ∙ sym (rw (bench_set_fixed profile (m.follows profile h t))))
 
-  pub opg-bench-one : (p : Pressure) (r : Turn) → at + 6 ≤ length script → call_at script at ≡ SetOpgBench p → used ≤ length memory
-      → Made g (opgBenchSet p r.number) (at + 6) used r → One script memory g at used r memory
+  pub opg_bench_one : (p : Pressure) (r : Turn) → at + 6 ≤ length script → call_at script at ≡ SetOpgBench p → used ≤ length memory
+      → Made g (opg_bench_set p r.number) (at + 6) used r → One script memory g at used r memory
   unfolding made
-  opg-bench-one p r h e fits m =
-      took_one (opgBenchSet p r.number) (at + 6) used r memory m h fits (λ profile h t. advances profile script (standing h) (SetOpgBench p) e (omega arith) ∙ sym (rw (opg-bench-set-fixed profile (m.follows profile h t))))
+  opg_bench_one p r h e fits m =
+      took_one (opg_bench_set p r.number) (at + 6) used r memory m h fits (λ profile h t. advances profile script (standing h) (SetOpgBench p) e (omega arith) ∙ sym (rw (opg_bench_set_fixed profile (m.follows profile h t))))
 
   -- no call was made: too little memory is left for it, or there is none
-  pub no_room : (k : Call) (r : Turn) → call_at script at ≡ k → used ≤ length memory → length memory - used < roomOf k → r.more ≡ false
+  pub no_room : (k : Call) (r : Turn) → call_at script at ≡ k → used ≤ length memory → length memory - used < room_of k → r.more ≡ false
       → One script memory g at used r memory
-  no_room k r e h l more = inl (record { none_made = more; memory-is = refl; stands = λ profile h. stands profile script (standing h) k e (omega arith) })
+  no_room k r e h l more = inl (record { none_made = more; memory_is = refl; stands = λ profile h. stands profile script (standing h) k e (omega arith) })
 
   pub none_left : (r : Turn) → call_at script at ≡ End → used ≤ length memory → r.more ≡ false → One script memory g at used r memory
   unfolding made
-  none_left r e fits more = inl (record { none_made = more; memory-is = refl; stands = λ profile h. advances profile script (standing h) End e (omega arith) })
+  none_left r e fits more = inl (record { none_made = more; memory_is = refl; stands = λ profile h. advances profile script (standing h) End e (omega arith) })

@@ -1,7 +1,7 @@
 // Plays a sequence of calls, written as bytes (a script), on one text gauge and one OPG from factory settings on, and keeps each answer.
 ghost use Rattle.std.specs.Prelude.{◌≡◌, true, false, [], ◌<◌, ◌≤◌, length};
 ghost use Rattle.script.specs.declared.To.TheVariants.{Text, Opg};
-ghost use Rattle.player.specs.Played.{asked, lined, benchSet, opgBenchSet, Ran};
+ghost use Rattle.player.specs.Played.{asked, lined, bench_set, opg_bench_set, Ran};
 ghost use Rattle.player.specs.Inner.{Traces, Made, One};
 
 // The two gauges.
@@ -105,7 +105,7 @@ fn show(g: Gauges, part: &mut [u8], at: usize, used: usize) -> Turn
 
 // A bench setting of the text gauge, which has no reply.
 fn set_bench(g: Gauges, b: readings::Bench, at: usize, used: usize) -> Turn
-    ensures { Made g (benchSet b result.number) at used result }
+    ensures { Made g (bench_set b result.number) at used result }
 {
     let old = g.text;
     let opg = g.opg;
@@ -116,7 +116,7 @@ fn set_bench(g: Gauges, b: readings::Bench, at: usize, used: usize) -> Turn
 
 // A bench setting of the OPG, which has no reply.
 fn set_opg_bench(g: Gauges, p: opg_gauge::Pressure, at: usize, used: usize) -> Turn
-    ensures { Made g (opgBenchSet p result.number) at used result }
+    ensures { Made g (opg_bench_set p result.number) at used result }
 {
     let old = g.opg;
     let text = g.text;

@@ -1,11 +1,11 @@
--- To compute with these definitions: `unfolding readings-open` opens every one of this crate, and those that they stand on.
-use Rattle.settings.proofs.Open.{settings-open}
-use Rattle.error_texts.proofs.Open.{error-texts-open}
-use Rattle.readings.specs.Bench.{pressureAt, temperatureAt, takes, pressureOf, degreesOf, temperatureOf, benchOf}
-use Rattle.readings.specs.Measure.{sixOf, roundedText, measureText}
-use Rattle.readings.specs.Place.{code_of, place_of, readingAt}
-use Rattle.readings.specs.Reading.{putReading, pressureText, temperatureText, valueText, faultyPressure, faultyTemperature}
+-- To compute with these definitions: `unfolding readings_open` opens every one of this crate, and those that they stand on.
+use Rattle.settings.proofs.Open.{settings_open}
+use Rattle.error_texts.proofs.Open.{error_texts_open}
+use Rattle.readings.specs.Bench.{pressure_at, temperature_at, takes, pressure_of, degrees_of, temperature_of, bench_of}
+use Rattle.readings.specs.Measure.{six_of, rounded_text, measure_text}
+use Rattle.readings.specs.Place.{code_of, place_of, reading_at}
+use Rattle.readings.specs.Reading.{put_reading, pressure_text, temperature_text, value_text, faulty_pressure, faulty_temperature}
 
-unfoldable pub readings-open : Unit {0}
-unfolding settings-open error-texts-open pressureAt temperatureAt takes pressureOf degreesOf temperatureOf benchOf sixOf roundedText measureText code_of place_of readingAt putReading pressureText temperatureText valueText faultyPressure faultyTemperature
-readings-open = tt
+unfoldable pub readings_open : Unit {0}
+unfolding settings_open error_texts_open pressure_at temperature_at takes pressure_of degrees_of temperature_of bench_of six_of rounded_text measure_text code_of place_of reading_at put_reading pressure_text temperature_text value_text faulty_pressure faulty_temperature
+readings_open = tt

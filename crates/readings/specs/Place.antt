@@ -38,15 +38,15 @@ place_of (T6 v) = SourceT6
 place_of (FS v) = Status
 
 -- what stands at a place
-unfoldable pub readingAt : Place → Readings → Reading
-readingAt Source0 r = P0 r.p0
-readingAt Source1 r = P1 r.p1
-readingAt Source2 r = P2 r.p2
-readingAt Source6 r = P6 r.p6
-readingAt Source7 r = P7 r.p7
-readingAt SourceT2 r = T2 r.t2
-readingAt SourceT6 r = T6 r.t6
-readingAt Status r = FS r.status
+unfoldable pub reading_at : Place → Readings → Reading
+reading_at Source0 r = P0 r.p0
+reading_at Source1 r = P1 r.p1
+reading_at Source2 r = P2 r.p2
+reading_at Source6 r = P6 r.p6
+reading_at Source7 r = P7 r.p7
+reading_at SourceT2 r = T2 r.t2
+reading_at SourceT6 r = T6 r.t6
+reading_at Status r = FS r.status
 
 -- all of them
 abbrev pub places : List Place

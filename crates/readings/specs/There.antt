@@ -2,7 +2,7 @@
 use Rattle.std.specs.Prelude.{List, [], ◌∷◌, ℕ}
 use Rattle.std.proofs.Math.Option.{Option, none, some}
 use Rattle.buffer.specs.Byte.{digit}
-use Rattle.readings.specs.Reading.{pressureText, temperatureText}
+use Rattle.readings.specs.Reading.{pressure_text, temperature_text}
 use Rattle.readings.specs.declared.Reading.{Reading}
 use Rattle.readings.specs.declared.Reading.TheVariants.{P0, P1, P2, P6, P7, T2, T6, FS}
 use Rattle.readings.specs.declared.Bench.{Bench}
@@ -18,12 +18,12 @@ names (Faulty code) = some code
 names (bench.Status v) = none
 
 -- the text of a reading; FS as its digit
-unfoldable pub shownAs : Reading → List ℕ
-shownAs (P0 p) = pressureText p
-shownAs (P1 p) = pressureText p
-shownAs (P2 p) = pressureText p
-shownAs (P6 p) = pressureText p
-shownAs (P7 p) = pressureText p
-shownAs (T2 t) = temperatureText t
-shownAs (T6 t) = temperatureText t
-shownAs (FS v) = digit v ∷ []
+unfoldable pub shown_as : Reading → List ℕ
+shown_as (P0 p) = pressure_text p
+shown_as (P1 p) = pressure_text p
+shown_as (P2 p) = pressure_text p
+shown_as (P6 p) = pressure_text p
+shown_as (P7 p) = pressure_text p
+shown_as (T2 t) = temperature_text t
+shown_as (T6 t) = temperature_text t
+shown_as (FS v) = digit v ∷ []

@@ -2,11 +2,11 @@
 // texts that they are sent as.
 ghost use Rattle.std.specs.Prelude.{◌≡◌};
 ghost use Rattle.buffer.specs.Text.{text_of};
-ghost use Rattle.error_texts.specs.Texts.{errorBytes};
+ghost use Rattle.error_texts.specs.Texts.{error_bytes};
 ghost use Rattle.error_texts.specs.declared.ErrorText.{ErrorText};
-ghost use Rattle.readings.specs.Reading.{start, putReading, pressureText, temperatureText, valueText, faultyPressure, faultyTemperature};
-ghost use Rattle.readings.specs.Bench.{takes, pressureAt, temperatureAt, pressureOf, outsideDegrees, degreesOf, temperatureOf, benchOf};
-ghost use Rattle.readings.specs.Measure.{sixOf, roundedText, measureText};
+ghost use Rattle.readings.specs.Reading.{start, put_reading, pressure_text, temperature_text, value_text, faulty_pressure, faulty_temperature};
+ghost use Rattle.readings.specs.Bench.{takes, pressure_at, temperature_at, pressure_of, outside_degrees, degrees_of, temperature_of, bench_of};
+ghost use Rattle.readings.specs.Measure.{six_of, rounded_text, measure_text};
 
 // A pressure: a number of mbar, under or over range, or faulty.
 #[derive(Drop)]
@@ -127,7 +127,7 @@ impl Readings {
 
     // Whether a temperature lies outside its limits, by its sign and its size in hundredths.
     pub fn is_outside(negative: bool, size: u32) -> bool
-        ensures { result ≡ outsideDegrees negative size }
+        ensures { result ≡ outside_degrees negative size }
     {
         if negative {
             return Readings::COLDEST < size;
@@ -191,7 +191,7 @@ impl Readings {
 
     // The readings with one of them set, and no other changed.
     pub fn with(self, reading: Reading) -> Readings
-        ensures { result ≡ putReading self reading }
+        ensures { result ≡ put_reading self reading }
     {
         let p0 = self.p0;
         let p1 = self.p1;
@@ -215,7 +215,7 @@ impl Readings {
 
     // The value that the stream line shows for a source, by its code.
     pub fn text(self, code: u8) -> buffer::Text
-        ensures { text_of result ≡ valueText code self }
+        ensures { text_of result ≡ value_text code self }
     {
         let p0 = self.p0;
         let p1 = self.p1;
@@ -239,7 +239,7 @@ impl Readings {
 
 // `ERROR1`.
 fn error_text() -> buffer::Text
-    ensures { text_of result ≡ errorBytes ErrorText.Error1 }
+    ensures { text_of result ≡ error_bytes ErrorText.Error1 }
 {
     let text = error_texts::error_bytes(error_texts::ErrorText::Error1);
     buffer::Text::EMPTY.add(&text)
@@ -247,7 +247,7 @@ fn error_text() -> buffer::Text
 
 // A number in the written form, `UR`, `OR` or `ERROR1`.
 pub fn pressure_text(p: Pressure) -> buffer::Text
-    ensures { text_of result ≡ pressureText p }
+    ensures { text_of result ≡ pressure_text p }
 {
     match p {
         Pressure::Measured(n) => decimal_text::written(n),
@@ -265,7 +265,7 @@ pub fn pressure_text(p: Pressure) -> buffer::Text
 
 // Degrees with two decimals, or `ERROR1`.
 pub fn temperature_text(t: Temperature) -> buffer::Text
-    ensures { text_of result ≡ temperatureText t }
+    ensures { text_of result ≡ temperature_text t }
 {
     match t {
         Temperature::Degrees(negative, hundredths) => {
@@ -276,7 +276,7 @@ pub fn temperature_text(t: Temperature) -> buffer::Text
 }
 
 pub fn is_faulty_pressure(p: Pressure) -> bool
-    ensures { result ≡ faultyPressure p }
+    ensures { result ≡ faulty_pressure p }
 {
     match p {
         Pressure::Measured(_) => false,
@@ -287,7 +287,7 @@ pub fn is_faulty_pressure(p: Pressure) -> bool
 }
 
 pub fn is_faulty_temperature(t: Temperature) -> bool
-    ensures { result ≡ faultyTemperature t }
+    ensures { result ≡ faulty_temperature t }
 {
     match t {
         Temperature::Degrees(_, _) => false,
@@ -299,7 +299,7 @@ pub fn is_faulty_temperature(t: Temperature) -> bool
 
 // Six digits: four of a mantissa, and two of an exponent.
 fn six_of(mantissa: u64, exponent: u16) -> buffer::Text
-    ensures { text_of result ≡ sixOf mantissa exponent }
+    ensures { text_of result ≡ six_of mantissa exponent }
 {
     let digits = [
         (mantissa / 1000 % 10) as u8 + 48,
@@ -314,7 +314,7 @@ fn six_of(mantissa: u64, exponent: u16) -> buffer::Text
 
 // A number's four digits, rounded half up, and its exponent plus 20.
 fn rounded_text(n: decimal::Number) -> buffer::Text
-    ensures { text_of result ≡ roundedText n }
+    ensures { text_of result ≡ rounded_text n }
 {
     let rounded = (n.mantissa as u64 + 50) / 100;
     let exponent = n.place as u16 + 11;
@@ -326,7 +326,7 @@ fn rounded_text(n: decimal::Number) -> buffer::Text
 
 // The data that V1's `M` sends for a pressure.
 pub fn measure_text(p: Pressure) -> buffer::Text
-    ensures { text_of result ≡ measureText p }
+    ensures { text_of result ≡ measure_text p }
 {
     match p {
         Pressure::Measured(n) => rounded_text(n),
@@ -340,7 +340,7 @@ pub fn measure_text(p: Pressure) -> buffer::Text
 
 // A pressure for a source, by its code.
 fn pressure_at(code: u8, p: Pressure) -> Benched
-    ensures { result ≡ pressureAt code p }
+    ensures { result ≡ pressure_at code p }
 {
     match code {
         0 => Benched::Accepted(Reading::P0(p)),
@@ -354,7 +354,7 @@ fn pressure_at(code: u8, p: Pressure) -> Benched
 
 // A temperature for a source, by its code.
 fn temperature_at(code: u8, t: Temperature) -> Benched
-    ensures { result ≡ temperatureAt code t }
+    ensures { result ≡ temperature_at code t }
 {
     match code {
         8 => Benched::Accepted(Reading::T2(t)),
@@ -374,7 +374,7 @@ fn takes_number(code: u8, n: decimal::Number) -> bool
 }
 
 fn pressure_of(code: u8, p: decimal::Parsed) -> Benched
-    ensures { result ≡ pressureOf code p }
+    ensures { result ≡ pressure_of code p }
 {
     let decimal::Parsed::Value(n) = p else {
         return Benched::Refused;
@@ -387,7 +387,7 @@ fn pressure_of(code: u8, p: decimal::Parsed) -> Benched
 
 // The size of a temperature in hundredths, within its limits.
 fn degrees_of(code: u8, negative: bool, h: decimal::Hundredths) -> Benched
-    ensures { result ≡ degreesOf code negative h }
+    ensures { result ≡ degrees_of code negative h }
 {
     let decimal::Hundredths::Whole(size) = h else {
         return Benched::Refused;
@@ -399,7 +399,7 @@ fn degrees_of(code: u8, negative: bool, h: decimal::Hundredths) -> Benched
 }
 
 fn temperature_of(code: u8, p: decimal::Parsed) -> Benched
-    ensures { result ≡ temperatureOf code p }
+    ensures { result ≡ temperature_of code p }
 {
     let decimal::Parsed::Value(n) = p else {
         return Benched::Refused;
@@ -410,7 +410,7 @@ fn temperature_of(code: u8, p: decimal::Parsed) -> Benched
 
 // A bench setting as a reading, or refused.
 pub fn judge_bench(b: Bench) -> Benched
-    ensures { result ≡ benchOf b }
+    ensures { result ≡ bench_of b }
 {
     match b {
         Bench::Reads(code, x) => {

@@ -1,12 +1,12 @@
 -- Document 01, the bench, the values and V1's `M`: worked cases, their answers taken from the paper.
 use Rattle.std.specs.Prelude.{Bool, true, false, List, [], ◌∷◌, ℕ, eqb}
 use Prim.Native.String.{String}
-use Rattle.buffer.specs.Byte.{sameText}
+use Rattle.buffer.specs.Byte.{same_text}
 use Rattle.buffer.specs.Quoted.{bytes}
 use Rattle.decimal.specs.declared.Exact.{Exact}
-use Rattle.readings.specs.Reading.{start, putReading, valueText}
-use Rattle.readings.specs.Measure.{measureText}
-use Rattle.readings.specs.Bench.{benchOf, benchNumber}
+use Rattle.readings.specs.Reading.{start, put_reading, value_text}
+use Rattle.readings.specs.Measure.{measure_text}
+use Rattle.readings.specs.Bench.{bench_of, bench_number}
 use Rattle.readings.specs.declared.Readings.{Readings}
 use Rattle.readings.specs.declared.Bench.{Bench}
 use Rattle.readings.specs.declared.Bench.TheVariants.{Reads, UnderRange, OverRange, Faulty, Status}
@@ -63,7 +63,7 @@ cases =
     ∷ []
 
 abbrev pub right : Case → Bool
-right c = eqb (benchNumber (benchOf c.setting)) c.number
+right c = eqb (bench_number (bench_of c.setting)) c.number
 
 -- ---- texts
 
@@ -78,7 +78,7 @@ then setting code text = record { setting = setting; code = code; text = bytes t
 
 -- the readings after a bench setting at the start
 abbrev pub after : Benched → Readings
-after (Accepted x) = putReading start x
+after (Accepted x) = put_reading start x
 after Refused = start
 
 -- "A value is a number, `UR`, `OR` or `ERROR1`."
@@ -106,7 +106,7 @@ values =
     ∷ []
 
 abbrev pub shown : Sends → Bool
-shown c = sameText (valueText c.code (after (benchOf c.setting))) c.text
+shown c = same_text (value_text c.code (after (bench_of c.setting))) c.text
 
 -- "four mantissa digits and exponent plus 20, rounded half up to four digits; `000000` under, `999999` over"
 abbrev pub measures : List Sends
@@ -125,4 +125,4 @@ measures =
     ∷ []
 
 abbrev pub measured : Sends → Bool
-measured c = sameText (measureText (after (benchOf c.setting)).p0) c.text
+measured c = same_text (measure_text (after (bench_of c.setting)).p0) c.text

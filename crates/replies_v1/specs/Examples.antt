@@ -1,12 +1,12 @@
 -- Document 01, "The master's side": worked cases of the V1 reply reader.
 use Rattle.std.specs.Prelude.{Bool, List, [], ◌∷◌, ◌++◌, ℕ}
 use Prim.Native.String.{String}
-use Rattle.buffer.specs.Byte.{sameText}
+use Rattle.buffer.specs.Byte.{same_text}
 use Rattle.buffer.specs.Quoted.{bytes}
 use Rattle.settings.specs.declared.PressureUnit.TheVariants.{Torr}
 use Rattle.requests.specs.declared.RequestV1.{RequestV1}
 use Rattle.requests.specs.declared.RequestV1.TheVariants.{Measure, ReadFactor, Unlock, SetFactor, ReadUnit, SetUnit}
-use Rattle.replies_v1.specs.ReplyV1.{readV1, readShownV1}
+use Rattle.replies_v1.specs.ReplyV1.{read_v1, read_shown_v1}
 
 -- a request to address 1, the bytes that come back, and what they are read as
 pub record Case : Type 0 where
@@ -79,4 +79,4 @@ cases =
     ∷ []
 
 abbrev pub right : Case → Bool
-right c = sameText (readShownV1 (readV1 1 c.request c.reply)) c.shown
+right c = same_text (read_shown_v1 (read_v1 1 c.request c.reply)) c.shown

@@ -1,8 +1,8 @@
 // V1 replies as the master reads them (document 01, "The master's side").
 ghost use Rattle.std.specs.Prelude.{◌≡◌};
 ghost use Rattle.buffer.specs.Byte.{at};
-ghost use Rattle.frames.specs.Frame.{isLetter};
-ghost use Rattle.replies_v1.specs.ReplyV1.{errorAt, pressureV1, measureV1, factorV1, unit_at, unitV1, echoV1, valueV1, readV1};
+ghost use Rattle.frames.specs.Frame.{is_letter};
+ghost use Rattle.replies_v1.specs.ReplyV1.{error_at, pressure_v1, measure_v1, factor_v1, unit_at, unit_v1, echo_v1, value_v1, read_v1};
 
 use error_texts::ErrorText;
 use requests::RequestV1;
@@ -28,7 +28,7 @@ pub enum ReadV1 {
 
 // Whether byte 3 is a letter, as in every V1 frame and no other.
 fn has_letter(s: &[u8]) -> bool
-    ensures { result ≡ isLetter (at s.now 3) }
+    ensures { result ≡ is_letter (at s.now 3) }
 {
     if s.len() < 4 {
         return false;
@@ -38,14 +38,14 @@ fn has_letter(s: &[u8]) -> bool
 
 // Whether the bytes from `start` to before the checksum are this error text.
 fn is_error(s: &[u8], start: usize, e: ErrorText) -> bool
-    ensures { result ≡ errorAt start e s.now }
+    ensures { result ≡ error_at start e s.now }
 {
     error_texts::is_error_text(frames::data_from(s, start), e)
 }
 
 // A pressure: four digits of mantissa, and two of the exponent plus 20.
 fn read_pressure(d: &[u8]) -> ReadV1
-    ensures { result ≡ pressureV1 d.now }
+    ensures { result ≡ pressure_v1 d.now }
 {
     if !requests::has_six_digits(d) {
         return ReadV1::Refused(10);
@@ -66,7 +66,7 @@ fn read_pressure(d: &[u8]) -> ReadV1
 
 // The data of an `M` reply.
 fn read_measure(d: &[u8]) -> ReadV1
-    ensures { result ≡ measureV1 d.now }
+    ensures { result ≡ measure_v1 d.now }
 {
     let fault = [b'1'];
     if buffer::is_same(d, &fault) {
@@ -85,7 +85,7 @@ fn read_measure(d: &[u8]) -> ReadV1
 
 // The data of a `C` reply.
 fn read_factor(d: &[u8]) -> ReadV1
-    ensures { result ≡ factorV1 d.now }
+    ensures { result ≡ factor_v1 d.now }
 {
     if !requests::has_six_digits(d) {
         return ReadV1::Refused(10);
@@ -109,7 +109,7 @@ fn unit_at(n: u32) -> ReadV1
 
 // The data of a `U` reply.
 fn read_unit(d: &[u8]) -> ReadV1
-    ensures { result ≡ unitV1 d.now }
+    ensures { result ≡ unit_v1 d.now }
 {
     if !requests::has_six_digits(d) {
         return ReadV1::Refused(10);
@@ -119,7 +119,7 @@ fn read_unit(d: &[u8]) -> ReadV1
 
 // The data of a set reply: the request's own.
 fn read_echo(request: RequestV1, d: &[u8]) -> ReadV1
-    ensures { result ≡ echoV1 request d.now }
+    ensures { result ≡ echo_v1 request d.now }
 {
     let text = request_texts::data_v1(request);
     let n = text.size();
@@ -132,7 +132,7 @@ fn read_echo(request: RequestV1, d: &[u8]) -> ReadV1
 
 // The data that answer a request.
 fn read_value(request: RequestV1, d: &[u8]) -> ReadV1
-    ensures { result ≡ valueV1 request d.now }
+    ensures { result ≡ value_v1 request d.now }
 {
     match request {
         RequestV1::Measure => read_measure(d),
@@ -146,7 +146,7 @@ fn read_value(request: RequestV1, d: &[u8]) -> ReadV1
 
 // Any bytes as the reply to a request that was sent to this address, or the first refusal that applies.
 pub fn read_reply_v1(address: u16, request: RequestV1, s: &[u8]) -> ReadV1
-    ensures { result ≡ readV1 address request s.now }
+    ensures { result ≡ read_v1 address request s.now }
 {
     if !has_letter(s) {
         return ReadV1::Refused(2);

@@ -1,8 +1,8 @@
 -- The worked cases, computed.
 use mathlib.Core.Path.{refl}
 use Rattle.replies_v2.specs.Theorems.{AllRead}
-use Rattle.replies_v2.proofs.Open.{replies-v2-open}
+use Rattle.replies_v2.proofs.Open.{replies_v2_open}
 
 pub all_read : AllRead
-unfolding replies-v2-open
+unfolding replies_v2_open
 all_read = refl

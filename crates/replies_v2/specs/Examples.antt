@@ -1,17 +1,17 @@
 -- Document 01, "The master's side", and document 02, "Hot cathode gauges": worked cases of the V2 reply reader, their answers taken from the papers.
 use Rattle.std.specs.Prelude.{Bool, ◌&&◌, List, [], ◌∷◌, ◌++◌, ℕ}
 use Prim.Native.String.{String}
-use Rattle.buffer.specs.Byte.{sameText}
+use Rattle.buffer.specs.Byte.{same_text}
 use Rattle.buffer.specs.Quoted.{bytes}
 use Rattle.sources.specs.declared.Profile.{Profile}
 use Rattle.sources.specs.declared.Profile.TheVariants.{Standard, Vsh, Vsm}
-use Rattle.settings.specs.Limits.{limitsOf}
+use Rattle.settings.specs.Limits.{limits_of}
 use Rattle.settings.specs.declared.Key.TheVariants.{DA, DU, C1, CM, ST, SM}
 use Rattle.settings.specs.declared.Setting.TheVariants.{Address, Factor}
 use Rattle.requests.specs.declared.Command.TheVariants.{MV, T2, FN, FS, Of}
 use Rattle.requests.specs.declared.RequestV2.{RequestV2}
 use Rattle.requests.specs.declared.RequestV2.TheVariants as ask
-use Rattle.replies_v2.specs.ReplyV2.{readV2, readList, readShownV2}
+use Rattle.replies_v2.specs.ReplyV2.{read_v2, read_list, read_shown_v2}
 
 -- the profile, the address and the request that the reader is told, the bytes, what they are read as, and the list beside it
 pub record Case : Type 0 where
@@ -22,8 +22,8 @@ pub record Case : Type 0 where
   pub shown : List ℕ
   pub list : List ℕ
 
-abbrev pub readsOn : Profile → RequestV2 → String → List ℕ → List ℕ → Case
-readsOn p r frame shown list = record { profile = p; address = 1; request = r; frame = bytes frame ++ (13 ∷ []); shown = shown; list = list }
+abbrev pub reads_on : Profile → RequestV2 → String → List ℕ → List ℕ → Case
+reads_on p r frame shown list = record { profile = p; address = 1; request = r; frame = bytes frame ++ (13 ∷ []); shown = shown; list = list }
 
 abbrev pub reads : RequestV2 → String → List ℕ → Case
 reads r frame shown = record { profile = Standard; address = 1; request = r; frame = bytes frame ++ (13 ∷ []); shown = shown; list = [] }
@@ -114,31 +114,31 @@ cases =
     ∷ reads (ask.Read (Of DU)) "0011DU03Pa O" (10 ∷ [])
     -- ST by the profile: the third, VSH, VSM
     ∷ reads (ask.Read (Of ST)) "0011ST05D1e-3H" (11 ∷ [])
-    ∷ readsOn Vsh (ask.Read (Of ST)) "0011ST05D1e-3H" (0 ∷ 7 ∷ bytes "STD1e-3") []
-    ∷ readsOn Vsm (ask.Read (Of ST)) "0011ST05D1e-3H" (0 ∷ 7 ∷ bytes "STD1e-3") []
+    ∷ reads_on Vsh (ask.Read (Of ST)) "0011ST05D1e-3H" (0 ∷ 7 ∷ bytes "STD1e-3") []
+    ∷ reads_on Vsm (ask.Read (Of ST)) "0011ST05D1e-3H" (0 ∷ 7 ∷ bytes "STD1e-3") []
     ∷ reads (ask.Read (Of ST)) "0011ST05D5e-3L" (11 ∷ [])
-    ∷ readsOn Vsh (ask.Read (Of ST)) "0011ST05D5e-3L" (0 ∷ 7 ∷ bytes "STD5e-3") []
-    ∷ readsOn Vsm (ask.Read (Of ST)) "0011ST05D5e-3L" (11 ∷ []) []
-    ∷ readsOn Vsh (ask.Read (Of ST)) "0011ST04D1e0W" (11 ∷ []) []
-    ∷ readsOn Vsm (ask.Read (Of ST)) "0011ST04D1e0W" (11 ∷ []) []
+    ∷ reads_on Vsh (ask.Read (Of ST)) "0011ST05D5e-3L" (0 ∷ 7 ∷ bytes "STD5e-3") []
+    ∷ reads_on Vsm (ask.Read (Of ST)) "0011ST05D5e-3L" (11 ∷ []) []
+    ∷ reads_on Vsh (ask.Read (Of ST)) "0011ST04D1e0W" (11 ∷ []) []
+    ∷ reads_on Vsm (ask.Read (Of ST)) "0011ST04D1e0W" (11 ∷ []) []
     -- the `F` form, whatever its numbers
     ∷ reads (ask.Read (Of ST)) "0011ST10F5e0T1.5e1X" (0 ∷ 7 ∷ bytes "STF5e0T1.5e1")
-    ∷ readsOn Vsh (ask.Read (Of ST)) "0011ST10F5e0T1.5e1X" (10 ∷ []) []
-    ∷ readsOn Vsm (ask.Read (Of ST)) "0011ST10F5e0T1.5e1X" (10 ∷ []) []
+    ∷ reads_on Vsh (ask.Read (Of ST)) "0011ST10F5e0T1.5e1X" (10 ∷ []) []
+    ∷ reads_on Vsm (ask.Read (Of ST)) "0011ST10F5e0T1.5e1X" (10 ∷ []) []
     ∷ reads (ask.Read (Of ST)) "0011ST10F1e-3T2e-3Q" (11 ∷ [])
-    ∷ readsOn Vsh (ask.Read (Of ST)) "0011ST10F1e-3T2e-3Q" (10 ∷ []) []
-    ∷ readsOn Vsm (ask.Read (Of ST)) "0011ST10F1e-3T2e-3Q" (10 ∷ []) []
+    ∷ reads_on Vsh (ask.Read (Of ST)) "0011ST10F1e-3T2e-3Q" (10 ∷ []) []
+    ∷ reads_on Vsm (ask.Read (Of ST)) "0011ST10F1e-3T2e-3Q" (10 ∷ []) []
     -- SM by the profile's sources
-    ∷ readsOn Standard (ask.Read (Of SM)) "0011SM034D7t" (0 ∷ 7 ∷ bytes "SM4") (7 ∷ [])
-    ∷ readsOn Vsh (ask.Read (Of SM)) "0011SM034D7t" (11 ∷ []) []
-    ∷ readsOn Vsm (ask.Read (Of SM)) "0011SM034D7t" (11 ∷ []) []
-    ∷ readsOn Standard (ask.Read (Of SM)) "0011SM064D1DT2{" (0 ∷ 7 ∷ bytes "SM4") (1 ∷ 8 ∷ [])
-    ∷ readsOn Vsh (ask.Read (Of SM)) "0011SM064D1DT2{" (0 ∷ 7 ∷ bytes "SM4") (1 ∷ 8 ∷ [])
-    ∷ readsOn Vsm (ask.Read (Of SM)) "0011SM064D1DT2{" (0 ∷ 7 ∷ bytes "SM4") (1 ∷ 8 ∷ [])
+    ∷ reads_on Standard (ask.Read (Of SM)) "0011SM034D7t" (0 ∷ 7 ∷ bytes "SM4") (7 ∷ [])
+    ∷ reads_on Vsh (ask.Read (Of SM)) "0011SM034D7t" (11 ∷ []) []
+    ∷ reads_on Vsm (ask.Read (Of SM)) "0011SM034D7t" (11 ∷ []) []
+    ∷ reads_on Standard (ask.Read (Of SM)) "0011SM064D1DT2{" (0 ∷ 7 ∷ bytes "SM4") (1 ∷ 8 ∷ [])
+    ∷ reads_on Vsh (ask.Read (Of SM)) "0011SM064D1DT2{" (0 ∷ 7 ∷ bytes "SM4") (1 ∷ 8 ∷ [])
+    ∷ reads_on Vsm (ask.Read (Of SM)) "0011SM064D1DT2{" (0 ∷ 7 ∷ bytes "SM4") (1 ∷ 8 ∷ [])
     ∷ reads (ask.Read (Of SM)) "0011SM054D1D1e" (12 ∷ [])
-    ∷ readsOn Vsh (ask.Read (Of SM)) "0011SM054D1D1e" (12 ∷ []) []
-    ∷ readsOn Vsm (ask.Read (Of SM)) "0011SM054D1D1e" (12 ∷ []) []
+    ∷ reads_on Vsh (ask.Read (Of SM)) "0011SM054D1D1e" (12 ∷ []) []
+    ∷ reads_on Vsm (ask.Read (Of SM)) "0011SM054D1D1e" (12 ∷ []) []
     ∷ []
 
 abbrev pub right : Case → Bool
-right c = sameText (readShownV2 (readV2 (limitsOf c.profile) c.address c.request c.frame)) c.shown && sameText (readList (limitsOf c.profile) c.address c.request c.frame) c.list
+right c = same_text (read_shown_v2 (read_v2 (limits_of c.profile) c.address c.request c.frame)) c.shown && same_text (read_list (limits_of c.profile) c.address c.request c.frame) c.list

@@ -1,16 +1,16 @@
 // Replies of the text gauge in V2, as the master reads them (document 01, "The master's side").
 ghost use Rattle.std.specs.Prelude.{◌≡◌};
-ghost use Rattle.buffer.specs.Byte.{at, isDigit, sameText};
-ghost use Rattle.error_texts.specs.Texts.{errorBytes};
-ghost use Rattle.settings.specs.Limits.{limitsOf};
-ghost use Rattle.replies_v2.specs.ReplyV2.{otherAccess, otherCommand, mismatched, errorReply, doneReply, DataReads, BodyReads, ReadsV2};
+ghost use Rattle.buffer.specs.Byte.{at, is_digit, same_text};
+ghost use Rattle.error_texts.specs.Texts.{error_bytes};
+ghost use Rattle.settings.specs.Limits.{limits_of};
+ghost use Rattle.replies_v2.specs.ReplyV2.{other_access, other_command, mismatched, error_reply, done_reply, DataReads, BodyReads, ReadsV2};
 
 use replies_v2_values::{AnswerV2, ReadV2, ReplyV2};
 use requests::RequestV2;
 
 // The reply to a write or a restore has no data.
 fn read_done(s: &[u8]) -> ReadV2
-    ensures { result ≡ doneReply s.now }
+    ensures { result ≡ done_reply s.now }
 {
     if s.len() != 0 {
         return ReadV2::Refused(10);
@@ -20,7 +20,7 @@ fn read_done(s: &[u8]) -> ReadV2
 
 // The data of a reply that does not refuse.
 fn read_data(profile: sources::Profile, request: RequestV2, s: &[u8]) -> AnswerV2
-    ensures { DataReads (limitsOf profile) request s.now result }
+    ensures { DataReads (limits_of profile) request s.now result }
 {
     let RequestV2::Read(command) = request else {
         return replies_v2_values::plain(read_done(s));
@@ -30,7 +30,7 @@ fn read_data(profile: sources::Profile, request: RequestV2, s: &[u8]) -> AnswerV
 
 // The data of a reply that refuses: one of the six error texts.
 fn read_error(s: &[u8]) -> ReadV2
-    ensures { result ≡ errorReply s.now }
+    ensures { result ≡ error_reply s.now }
 {
     if error_texts::is_error_text(s, error_texts::ErrorText::Length) {
         return ReadV2::Read(ReplyV2::Error(error_texts::ErrorText::Length));
@@ -55,7 +55,7 @@ fn read_error(s: &[u8]) -> ReadV2
 
 // Whether an access code is neither the request's plus 1 nor `7`.
 fn is_other_access(request: RequestV2, access: u8) -> bool
-    ensures { result ≡ otherAccess request access }
+    ensures { result ≡ other_access request access }
 {
     if access == request_texts::access_code(request) + 1 {
         return false;
@@ -65,7 +65,7 @@ fn is_other_access(request: RequestV2, access: u8) -> bool
 
 // Whether the command is not the request's.
 fn is_other_command(request: RequestV2, head: frames::HeadV2) -> bool
-    ensures { result ≡ otherCommand request head }
+    ensures { result ≡ other_command request head }
 {
     let name = requests::command_bytes(request_texts::command_in(request));
     if head.first != name[0] {
@@ -91,7 +91,7 @@ fn read_body(
     head: frames::HeadV2,
     s: &[u8],
 ) -> AnswerV2
-    ensures { BodyReads (limitsOf profile) request head s.now result }
+    ensures { BodyReads (limits_of profile) request head s.now result }
 {
     if is_mismatched(request, head) {
         return replies_v2_values::plain(ReadV2::Refused(14));
@@ -104,7 +104,7 @@ fn read_body(
 
 // Whether byte 3 is a digit.
 fn has_digit(s: &[u8]) -> bool
-    ensures { result ≡ isDigit (at s.now 3) }
+    ensures { result ≡ is_digit (at s.now 3) }
 {
     if s.len() < 4 {
         return false;
@@ -119,7 +119,7 @@ pub fn read_reply_v2(
     request: RequestV2,
     s: &[u8],
 ) -> AnswerV2
-    ensures { ReadsV2 (limitsOf profile) address request s.now result }
+    ensures { ReadsV2 (limits_of profile) address request s.now result }
 {
     if !has_digit(s) {
         return replies_v2_values::plain(ReadV2::Refused(2));

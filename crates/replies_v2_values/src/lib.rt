@@ -1,10 +1,10 @@
 // Values in V2 replies (document 01, "The master's side"): the data of a reply to a read.
 ghost use Rattle.std.specs.Prelude.{◌≡◌, []};
-ghost use Rattle.decimal.specs.Form.{parsedNumber};
+ghost use Rattle.decimal.specs.Form.{parsed_number};
 ghost use Rattle.sources.specs.Source.{list_of, Counted};
-ghost use Rattle.settings.specs.Limits.{limitsOf};
+ghost use Rattle.settings.specs.Limits.{limits_of};
 ghost use Rattle.requests.specs.declared.Command.{Command};
-ghost use Rattle.replies_v2_values.specs.Value.{measuredReply, pressureReply, degreesReply, temperatureReply, filamentReply, statusReply, heldReply, bothEnds, transitionReply, Values};
+ghost use Rattle.replies_v2_values.specs.Value.{measured_reply, pressure_reply, degrees_reply, temperature_reply, filament_reply, status_reply, held_reply, both_ends, transition_reply, Values};
 
 use requests::Command;
 
@@ -55,7 +55,7 @@ pub fn plain(read: ReadV2) -> AnswerV2
 
 // The number of a text that is no number.
 fn refusal_of(p: decimal::Parsed) -> u8
-    ensures { result ≡ parsedNumber p }
+    ensures { result ≡ parsed_number p }
 {
     match p {
         decimal::Parsed::Value(_) => 0,
@@ -66,7 +66,7 @@ fn refusal_of(p: decimal::Parsed) -> u8
 
 // A number that source 0 can have.
 fn measured_in(p: decimal::Parsed) -> ReadV2
-    ensures { result ≡ measuredReply p }
+    ensures { result ≡ measured_reply p }
 {
     let decimal::Parsed::Value(n) = p else {
         return ReadV2::Refused(refusal_of(p));
@@ -79,7 +79,7 @@ fn measured_in(p: decimal::Parsed) -> ReadV2
 
 // MV.
 fn read_pressure(s: &[u8]) -> ReadV2
-    ensures { result ≡ pressureReply s.now }
+    ensures { result ≡ pressure_reply s.now }
 {
     let under = readings::Pressure::UNDER_RANGE;
     if buffer::is_same(s, &under) {
@@ -94,7 +94,7 @@ fn read_pressure(s: &[u8]) -> ReadV2
 
 // A size in hundredths of a degree, within the limits of a temperature.
 fn degrees_in(negative: bool, h: decimal::Hundredths) -> ReadV2
-    ensures { result ≡ degreesReply negative h }
+    ensures { result ≡ degrees_reply negative h }
 {
     let decimal::Hundredths::Whole(size) = h else {
         return ReadV2::Refused(11);
@@ -107,7 +107,7 @@ fn degrees_in(negative: bool, h: decimal::Hundredths) -> ReadV2
 
 // T2.
 fn temperature_in(p: decimal::Parsed) -> ReadV2
-    ensures { result ≡ temperatureReply p }
+    ensures { result ≡ temperature_reply p }
 {
     let decimal::Parsed::Value(n) = p else {
         return ReadV2::Refused(refusal_of(p));
@@ -118,7 +118,7 @@ fn temperature_in(p: decimal::Parsed) -> ReadV2
 
 // FN.
 fn filament_in(digit: forms::Digit) -> ReadV2
-    ensures { result ≡ filamentReply digit }
+    ensures { result ≡ filament_reply digit }
 {
     match digit {
         forms::Digit::Refused(k) => ReadV2::Refused(k),
@@ -133,7 +133,7 @@ fn filament_in(digit: forms::Digit) -> ReadV2
 
 // FS.
 fn status_in(digit: forms::Digit) -> ReadV2
-    ensures { result ≡ statusReply digit }
+    ensures { result ≡ status_reply digit }
 {
     match digit {
         forms::Digit::Refused(k) => ReadV2::Refused(k),
@@ -143,7 +143,7 @@ fn status_in(digit: forms::Digit) -> ReadV2
 
 // A setting, as its data are judged.
 fn held_in(verdict: forms::Verdict) -> ReadV2
-    ensures { result ≡ heldReply verdict }
+    ensures { result ≡ held_reply verdict }
 {
     match verdict {
         forms::Verdict::Set(x) => ReadV2::Read(ReplyV2::Holds(x)),
@@ -153,7 +153,7 @@ fn held_in(verdict: forms::Verdict) -> ReadV2
 
 // F and T, in any order: where one is refused, a write of them is refused with the same number.
 fn both_ends(low: forms::Limited, high: forms::Limited) -> ReadV2
-    ensures { result ≡ bothEnds low high }
+    ensures { result ≡ both_ends low high }
 {
     let forms::Limited::Fine(a) = low else {
         return held_in(forms::judge_ends(forms::Ends::Two(low, high)));
@@ -166,7 +166,7 @@ fn both_ends(low: forms::Limited, high: forms::Limited) -> ReadV2
 
 // ST.
 fn transition_in(ends: forms::Ends) -> ReadV2
-    ensures { result ≡ transitionReply ends }
+    ensures { result ≡ transition_reply ends }
 {
     let forms::Ends::Two(low, high) = ends else {
         return held_in(forms::judge_ends(ends));
@@ -176,7 +176,7 @@ fn transition_in(ends: forms::Ends) -> ReadV2
 
 // A setting's value: every setting but ST is read as a write of it.
 fn read_setting(profile: sources::Profile, key: settings::Key, s: &[u8]) -> AnswerV2
-    ensures { Values (limitsOf profile) (Command.Of key) s.now result }
+    ensures { Values (limits_of profile) (Command.Of key) s.now result }
 {
     let settings::Key::ST = key else {
         let judged = forms::judge(profile, key, s);
@@ -192,7 +192,7 @@ fn read_setting(profile: sources::Profile, key: settings::Key, s: &[u8]) -> Answ
 
 // The data of the reply to a read, from a gauge of this profile.
 pub fn read_value(profile: sources::Profile, command: Command, s: &[u8]) -> AnswerV2
-    ensures { Values (limitsOf profile) command s.now result }
+    ensures { Values (limits_of profile) command s.now result }
 {
     match command {
         Command::MV => plain(read_pressure(s)),

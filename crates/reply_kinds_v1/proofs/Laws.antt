@@ -12,11 +12,11 @@ use denote.Enum.Declared.{tag_of}
 use Rattle.replies_v1.specs.declared.ReplyV1.{ReplyV1}
 use Rattle.replies_v1.specs.declared.ReplyV1.TheVariants.{Reads, UnderRange, OverRange, Factor, Unit, Done, Error}
 use Rattle.replies_v1.specs.contracts.ReplyV1.{the_type}
-use Rattle.replies_v1.specs.ReplyV1.{readShownV1}
+use Rattle.replies_v1.specs.ReplyV1.{read_shown_v1}
 use Rattle.reply_kinds_v1.specs.Kind.{kind_of}
 
 placed : (r : ReplyV1) → kind_of r ≡ tag_of the_type r + 1
-unfolding readShownV1
+unfolding read_shown_v1
 placed (Reads mantissa exponent) = refl
 placed UnderRange = refl
 placed OverRange = refl

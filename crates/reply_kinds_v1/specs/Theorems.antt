@@ -2,18 +2,18 @@
 use Rattle.std.specs.Prelude.{◌≡◌, ℕ, eqb}
 use Rattle.replies_v1.specs.declared.ReplyV1.{ReplyV1}
 use Rattle.replies_v1.specs.declared.ReadV1.TheVariants.{Read}
-use Rattle.replies_v1.specs.ReplyV1.{readShownV1}
+use Rattle.replies_v1.specs.ReplyV1.{read_shown_v1}
 use Rattle.reply_kinds_v1.specs.Kind.{kind_of, expected}
-use Rattle.reply_kinds_v1.specs.Taken.{takenNumber, numbersOf, listed}
+use Rattle.reply_kinds_v1.specs.Taken.{taken_number, numbers_of, listed}
 
 -- "A reply of another kind never yields a value.": a value is taken out exactly of a reply of the expected kind
 abbrev pub TakenExactly : Type 0
-TakenExactly = (k : ℕ) (r : ReplyV1) → eqb (takenNumber k r) 0 ≡ eqb (kind_of r) k
+TakenExactly = (k : ℕ) (r : ReplyV1) → eqb (taken_number k r) 0 ≡ eqb (kind_of r) k
 
 -- and it is the reply's own
 abbrev pub TakenValue : Type 0
-TakenValue = (k : ℕ) (r : ReplyV1) → kind_of r ≡ k → readShownV1 (expected k r) ≡ readShownV1 (Read r)
+TakenValue = (k : ℕ) (r : ReplyV1) → kind_of r ≡ k → read_shown_v1 (expected k r) ≡ read_shown_v1 (Read r)
 
 -- for each reply and each kind, "refusal 14, 10 or 11" is as listed
 abbrev pub AsListed : Type 0
-AsListed = (r : ReplyV1) → numbersOf r ≡ listed r
+AsListed = (r : ReplyV1) → numbers_of r ≡ listed r

@@ -1,6 +1,6 @@
 // The value taken out of a decoded V1 reply (document 01, "The master's side"): a reply of another kind never yields one.
 ghost use Rattle.std.specs.Prelude.{◌≡◌};
-ghost use Rattle.reply_kinds_v1.specs.Kind.{noValue, noPressure, expected, asMeasured, asFactor, asUnit};
+ghost use Rattle.reply_kinds_v1.specs.Kind.{no_value, no_pressure, expected, as_measured, as_factor, as_unit};
 
 use replies_v1::ReplyV1;
 
@@ -27,7 +27,7 @@ pub enum UnitReadV1 {
 
 // Why a reply that is not of the expected kind has no value: an error's text is none of the request's form.
 fn no_value(reply: ReplyV1) -> u8
-    ensures { result ≡ noValue reply }
+    ensures { result ≡ no_value reply }
 {
     let ReplyV1::Error(_) = reply else {
         return 14;
@@ -37,7 +37,7 @@ fn no_value(reply: ReplyV1) -> u8
 
 // The same where a reading is expected: under and over range no number is told.
 fn no_pressure(reply: ReplyV1) -> u8
-    ensures { result ≡ noPressure reply }
+    ensures { result ≡ no_pressure reply }
 {
     match reply {
         ReplyV1::UnderRange => 11,
@@ -47,7 +47,7 @@ fn no_pressure(reply: ReplyV1) -> u8
 }
 
 pub fn measured_of(reply: ReplyV1) -> MeasuredV1
-    ensures { asMeasured result ≡ expected 1 reply }
+    ensures { as_measured result ≡ expected 1 reply }
 {
     let ReplyV1::Reads(mantissa, exponent) = reply else {
         return MeasuredV1::Refused(no_pressure(reply));
@@ -56,7 +56,7 @@ pub fn measured_of(reply: ReplyV1) -> MeasuredV1
 }
 
 pub fn factor_of(reply: ReplyV1) -> FactorReadV1
-    ensures { asFactor result ≡ expected 4 reply }
+    ensures { as_factor result ≡ expected 4 reply }
 {
     let ReplyV1::Factor(n) = reply else {
         return FactorReadV1::Refused(no_value(reply));
@@ -65,7 +65,7 @@ pub fn factor_of(reply: ReplyV1) -> FactorReadV1
 }
 
 pub fn unit_of(reply: ReplyV1) -> UnitReadV1
-    ensures { asUnit result ≡ expected 5 reply }
+    ensures { as_unit result ≡ expected 5 reply }
 {
     let ReplyV1::Unit(u) = reply else {
         return UnitReadV1::Refused(no_value(reply));

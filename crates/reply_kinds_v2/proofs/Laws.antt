@@ -12,11 +12,11 @@ use denote.Enum.Declared.{tag_of}
 use Rattle.replies_v2_values.specs.declared.ReplyV2.{ReplyV2}
 use Rattle.replies_v2_values.specs.declared.ReplyV2.TheVariants.{Measured, UnderRange, OverRange, Degrees, FilamentNumber, StatusNumber, Holds, Done, Error}
 use Rattle.replies_v2_values.specs.contracts.ReplyV2.{the_type}
-use Rattle.replies_v2.specs.ReplyV2.{readShownV2}
+use Rattle.replies_v2.specs.ReplyV2.{read_shown_v2}
 use Rattle.reply_kinds_v2.specs.Kind.{kind_of}
 
 placed : (r : ReplyV2) → kind_of r ≡ tag_of the_type r + 1
-unfolding readShownV2
+unfolding read_shown_v2
 placed (Measured n) = refl
 placed UnderRange = refl
 placed OverRange = refl

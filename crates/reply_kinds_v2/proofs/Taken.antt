@@ -11,54 +11,54 @@ use Rattle.replies_v2_values.specs.declared.ReplyV2.{ReplyV2}
 use Rattle.replies_v2_values.specs.declared.ReplyV2.TheVariants.{Measured, UnderRange, OverRange, Degrees, FilamentNumber, StatusNumber, Holds, Done, Error}
 use Rattle.replies_v2_values.specs.declared.ReadV2.{ReadV2}
 use Rattle.replies_v2_values.specs.declared.ReadV2.TheVariants.{Read}
-use Rattle.replies_v2.specs.ReplyV2.{readShownV2}
-use Rattle.reply_kinds_v2.specs.Kind.{kind_of, noValue, noPressure, expected}
+use Rattle.replies_v2.specs.ReplyV2.{read_shown_v2}
+use Rattle.reply_kinds_v2.specs.Kind.{kind_of, no_value, no_pressure, expected}
 use Rattle.reply_kinds_v2.specs.Theorems.{TakenExactly, TakenValue, AsListed}
 
 -- a reply that was read has number 0
-read-0 : (r : ReplyV2) → at (readShownV2 (Read r)) 0 ≡ 0
-unfolding readShownV2
-read-0 (Measured n) = refl
-read-0 UnderRange = refl
-read-0 OverRange = refl
-read-0 (Degrees negative h) = refl
-read-0 (FilamentNumber d) = refl
-read-0 (StatusNumber d) = refl
-read-0 (Holds x) = refl
-read-0 Done = refl
-read-0 (Error e) = refl
+read_0 : (r : ReplyV2) → at (read_shown_v2 (Read r)) 0 ≡ 0
+unfolding read_shown_v2
+read_0 (Measured n) = refl
+read_0 UnderRange = refl
+read_0 OverRange = refl
+read_0 (Degrees negative h) = refl
+read_0 (FilamentNumber d) = refl
+read_0 (StatusNumber d) = refl
+read_0 (Holds x) = refl
+read_0 Done = refl
+read_0 (Error e) = refl
 
-no-value-is : (r : ReplyV2) → eqb (noValue r) 0 ≡ false
-unfolding noValue
-no-value-is r = each (λ (k : ℕ). eqb k 0 ≡ false) _ _ _ (λ _. refl) (λ _. refl)
+no_value_is : (r : ReplyV2) → eqb (no_value r) 0 ≡ false
+unfolding no_value
+no_value_is r = each (λ (k : ℕ). eqb k 0 ≡ false) _ _ _ (λ _. refl) (λ _. refl)
 
-no-pressure-is : (r : ReplyV2) → eqb (noPressure r) 0 ≡ false
-unfolding noPressure
-no-pressure-is r =
+no_pressure_is : (r : ReplyV2) → eqb (no_pressure r) 0 ≡ false
+unfolding no_pressure
+no_pressure_is r =
     let P : ℕ → Type 0 = λ (k : ℕ). eqb k 0 ≡ false in
-    each P _ _ _ (λ _. refl) (λ _. each P _ _ _ (λ _. refl) (λ _. no-value-is r))
+    each P _ _ _ (λ _. refl) (λ _. each P _ _ _ (λ _. refl) (λ _. no_value_is r))
 
 -- a value is taken out exactly of a reply of the expected kind
-pub taken-exactly : TakenExactly
-unfolding expected readShownV2
-taken-exactly k r =
-    let P : ReadV2 → Type 0 = λ (x : ReadV2). eqb (at (readShownV2 x) 0) 0 ≡ eqb (kind_of r) k in
-    each P (eqb (kind_of r) k) (Read r) _ (λ e. rw (read-0 r, e)) (λ e.
-    rw e (each (λ (x : ReadV2). eqb (at (readShownV2 x) 0) 0 ≡ false) (eqb k 1) _ _ (λ _. no-pressure-is r) (λ _. no-value-is r)))
+pub taken_exactly : TakenExactly
+unfolding expected read_shown_v2
+taken_exactly k r =
+    let P : ReadV2 → Type 0 = λ (x : ReadV2). eqb (at (read_shown_v2 x) 0) 0 ≡ eqb (kind_of r) k in
+    each P (eqb (kind_of r) k) (Read r) _ (λ e. rw (read_0 r, e)) (λ e.
+    rw e (each (λ (x : ReadV2). eqb (at (read_shown_v2 x) 0) 0 ≡ false) (eqb k 1) _ _ (λ _. no_pressure_is r) (λ _. no_value_is r)))
 
 -- and it is the reply's own
-pub taken-value : TakenValue
+pub taken_value : TakenValue
 unfolding expected pick
-taken-value k r e = rw (eq-eqb (kind_of r) k e)
+taken_value k r e = rw (eq-eqb (kind_of r) k e)
 
-pub as-listed : AsListed
-unfolding expected noValue noPressure readShownV2 pick
-as-listed (Measured n) = refl
-as-listed UnderRange = refl
-as-listed OverRange = refl
-as-listed (Degrees negative h) = refl
-as-listed (FilamentNumber d) = refl
-as-listed (StatusNumber d) = refl
-as-listed (Holds x) = refl
-as-listed Done = refl
-as-listed (Error e) = refl
+pub as_listed : AsListed
+unfolding expected no_value no_pressure read_shown_v2 pick
+as_listed (Measured n) = refl
+as_listed UnderRange = refl
+as_listed OverRange = refl
+as_listed (Degrees negative h) = refl
+as_listed (FilamentNumber d) = refl
+as_listed (StatusNumber d) = refl
+as_listed (Holds x) = refl
+as_listed Done = refl
+as_listed (Error e) = refl

@@ -2,18 +2,18 @@
 use Rattle.std.specs.Prelude.{◌≡◌, ℕ, eqb}
 use Rattle.replies_v2_values.specs.declared.ReplyV2.{ReplyV2}
 use Rattle.replies_v2_values.specs.declared.ReadV2.TheVariants.{Read}
-use Rattle.replies_v2.specs.ReplyV2.{readShownV2}
+use Rattle.replies_v2.specs.ReplyV2.{read_shown_v2}
 use Rattle.reply_kinds_v2.specs.Kind.{kind_of, expected}
-use Rattle.reply_kinds_v2.specs.Taken.{takenNumber, numbersOf, listed}
+use Rattle.reply_kinds_v2.specs.Taken.{taken_number, numbers_of, listed}
 
 -- "A reply of another kind never yields a value.": a value is taken out exactly of a reply of the expected kind
 abbrev pub TakenExactly : Type 0
-TakenExactly = (k : ℕ) (r : ReplyV2) → eqb (takenNumber k r) 0 ≡ eqb (kind_of r) k
+TakenExactly = (k : ℕ) (r : ReplyV2) → eqb (taken_number k r) 0 ≡ eqb (kind_of r) k
 
 -- and it is the reply's own
 abbrev pub TakenValue : Type 0
-TakenValue = (k : ℕ) (r : ReplyV2) → kind_of r ≡ k → readShownV2 (expected k r) ≡ readShownV2 (Read r)
+TakenValue = (k : ℕ) (r : ReplyV2) → kind_of r ≡ k → read_shown_v2 (expected k r) ≡ read_shown_v2 (Read r)
 
 -- for each reply and each kind, "refusal 14, 10 or 11" is as listed
 abbrev pub AsListed : Type 0
-AsListed = (r : ReplyV2) → numbersOf r ≡ listed r
+AsListed = (r : ReplyV2) → numbers_of r ≡ listed r

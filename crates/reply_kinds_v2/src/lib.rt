@@ -1,6 +1,6 @@
 // The value taken out of a decoded V2 reply (document 01, "The master's side"): a reply of another kind never yields one.
 ghost use Rattle.std.specs.Prelude.{◌≡◌};
-ghost use Rattle.reply_kinds_v2.specs.Kind.{noValue, noPressure, expected, asMeasured, asDegrees, asFilament, asStatus, asSetting};
+ghost use Rattle.reply_kinds_v2.specs.Kind.{no_value, no_pressure, expected, as_measured, as_degrees, as_filament, as_status, as_setting};
 
 use replies_v2_values::ReplyV2;
 
@@ -34,7 +34,7 @@ pub enum SettingV2 {
 
 // Why a reply that is not of the expected kind has no value: an error's text is none of the command's form.
 fn no_value(reply: ReplyV2) -> u8
-    ensures { result ≡ noValue reply }
+    ensures { result ≡ no_value reply }
 {
     let ReplyV2::Error(_) = reply else {
         return 14;
@@ -44,7 +44,7 @@ fn no_value(reply: ReplyV2) -> u8
 
 // The same where a number of MV is expected: under and over range no number is told.
 fn no_pressure(reply: ReplyV2) -> u8
-    ensures { result ≡ noPressure reply }
+    ensures { result ≡ no_pressure reply }
 {
     match reply {
         ReplyV2::UnderRange => 11,
@@ -54,7 +54,7 @@ fn no_pressure(reply: ReplyV2) -> u8
 }
 
 pub fn pressure_of(reply: ReplyV2) -> MeasuredV2
-    ensures { asMeasured result ≡ expected 1 reply }
+    ensures { as_measured result ≡ expected 1 reply }
 {
     let ReplyV2::Measured(n) = reply else {
         return MeasuredV2::Refused(no_pressure(reply));
@@ -63,7 +63,7 @@ pub fn pressure_of(reply: ReplyV2) -> MeasuredV2
 }
 
 pub fn degrees_of(reply: ReplyV2) -> DegreesV2
-    ensures { asDegrees result ≡ expected 4 reply }
+    ensures { as_degrees result ≡ expected 4 reply }
 {
     let ReplyV2::Degrees(negative, size) = reply else {
         return DegreesV2::Refused(no_value(reply));
@@ -72,7 +72,7 @@ pub fn degrees_of(reply: ReplyV2) -> DegreesV2
 }
 
 pub fn filament_of(reply: ReplyV2) -> DigitV2
-    ensures { asFilament result ≡ expected 5 reply }
+    ensures { as_filament result ≡ expected 5 reply }
 {
     let ReplyV2::FilamentNumber(d) = reply else {
         return DigitV2::Refused(no_value(reply));
@@ -81,7 +81,7 @@ pub fn filament_of(reply: ReplyV2) -> DigitV2
 }
 
 pub fn status_of(reply: ReplyV2) -> DigitV2
-    ensures { asStatus result ≡ expected 6 reply }
+    ensures { as_status result ≡ expected 6 reply }
 {
     let ReplyV2::StatusNumber(d) = reply else {
         return DigitV2::Refused(no_value(reply));
@@ -90,7 +90,7 @@ pub fn status_of(reply: ReplyV2) -> DigitV2
 }
 
 pub fn setting_of(reply: ReplyV2) -> SettingV2
-    ensures { asSetting result ≡ expected 7 reply }
+    ensures { as_setting result ≡ expected 7 reply }
 {
     let ReplyV2::Holds(x) = reply else {
         return SettingV2::Refused(no_value(reply));

@@ -1,7 +1,7 @@
--- To compute with these definitions: `unfolding request-reader-open` opens every one of this crate, and those that they stand on.
-use Rattle.requests.proofs.Open.{requests-open}
-use Rattle.request_reader.specs.Decoded.{fromV2, judgedV1, fromV1, fromFrame, requestOf, list_from, requestList, requestNumber}
+-- To compute with these definitions: `unfolding request_reader_open` opens every one of this crate, and those that they stand on.
+use Rattle.requests.proofs.Open.{requests_open}
+use Rattle.request_reader.specs.Decoded.{from_v2, judged_v1, from_v1, from_frame, request_of, list_from, request_list, request_number}
 
-unfoldable pub request-reader-open : Unit {0}
-unfolding requests-open fromV2 judgedV1 fromV1 fromFrame requestOf list_from requestList requestNumber
-request-reader-open = tt
+unfoldable pub request_reader_open : Unit {0}
+unfolding requests_open from_v2 judged_v1 from_v1 from_frame request_of list_from request_list request_number
+request_reader_open = tt

@@ -1,8 +1,8 @@
 // Any bytes read as a typed request to a text gauge, whatever the gauge's state (document 01, "The master's side").
 ghost use Rattle.std.specs.Prelude.{◌≡◌, []};
 ghost use Rattle.sources.specs.Source.{list_of, Counted};
-ghost use Rattle.settings.specs.Limits.{limitsOf};
-ghost use Rattle.request_reader.specs.Decoded.{fromV2, judgedV1, fromV1, Decodes};
+ghost use Rattle.settings.specs.Limits.{limits_of};
+ghost use Rattle.request_reader.specs.Decoded.{from_v2, judged_v1, from_v1, Decodes};
 
 use requests::{AskV1, AskV2, RequestV1, RequestV2};
 use settings::Settings;
@@ -23,7 +23,7 @@ pub struct Decoded {
 }
 
 fn from_v2(address: u16, ask: AskV2) -> Request
-    ensures { result ≡ fromV2 address ask }
+    ensures { result ≡ from_v2 address ask }
 {
     match ask {
         AskV2::Asks(r) => Request::V2(address, r),
@@ -33,7 +33,7 @@ fn from_v2(address: u16, ask: AskV2) -> Request
 
 // A V1 request; the number of a factor is judged.
 fn judged_v1(address: u16, request: RequestV1) -> Request
-    ensures { result ≡ judgedV1 address request }
+    ensures { result ≡ judged_v1 address request }
 {
     let RequestV1::SetFactor(n) = request else {
         return Request::V1(address, request);
@@ -45,7 +45,7 @@ fn judged_v1(address: u16, request: RequestV1) -> Request
 }
 
 fn from_v1(address: u16, ask: AskV1) -> Request
-    ensures { result ≡ fromV1 address ask }
+    ensures { result ≡ from_v1 address ask }
 {
     match ask {
         AskV1::Asks(r) => judged_v1(address, r),
@@ -64,7 +64,7 @@ fn plain(request: Request) -> Decoded
 
 // Any bytes as a typed request to a gauge of this profile, or the first refusal that applies.
 pub fn read_request(profile: sources::Profile, s: &[u8]) -> Decoded
-    ensures { Decodes (limitsOf profile) s.now result }
+    ensures { Decodes (limits_of profile) s.now result }
 {
     match frames::read_frame(s) {
         frames::Frame::Silent(k) => plain(Request::Refused(k)),

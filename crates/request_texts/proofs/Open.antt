@@ -1,7 +1,7 @@
--- To compute with these definitions: `unfolding request-texts-open` opens every one of this crate, and those that they stand on.
-use Rattle.requests.proofs.Open.{requests-open}
-use Rattle.request_texts.specs.RequestText.{accessOf, commandIn, headFor, dataV2, letterV1, dataV1}
+-- To compute with these definitions: `unfolding request_texts_open` opens every one of this crate, and those that they stand on.
+use Rattle.requests.proofs.Open.{requests_open}
+use Rattle.request_texts.specs.RequestText.{access_of, command_in, head_for, data_v2, letter_v1, data_v1}
 
-unfoldable pub request-texts-open : Unit {0}
-unfolding requests-open accessOf commandIn headFor dataV2 letterV1 dataV1
-request-texts-open = tt
+unfoldable pub request_texts_open : Unit {0}
+unfolding requests_open access_of command_in head_for data_v2 letter_v1 data_v1
+request_texts_open = tt

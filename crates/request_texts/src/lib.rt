@@ -3,7 +3,7 @@
 ghost use Rattle.std.specs.Prelude.{◌≡◌};
 ghost use Rattle.buffer.specs.Text.{text_of};
 ghost use Rattle.sources.specs.Source.{list_of};
-ghost use Rattle.request_texts.specs.RequestText.{accessOf, commandIn, headFor, dataV2, digits6, letterV1, dataV1};
+ghost use Rattle.request_texts.specs.RequestText.{access_of, command_in, head_for, data_v2, digits6, letter_v1, data_v1};
 
 use requests::{Command, RequestV1, RequestV2};
 
@@ -11,7 +11,7 @@ use requests::{Command, RequestV1, RequestV2};
 
 // The access code of a request.
 pub fn access_code(request: RequestV2) -> u8
-    ensures { result ≡ accessOf request }
+    ensures { result ≡ access_of request }
 {
     match request {
         RequestV2::Read(_) => b'0',
@@ -22,7 +22,7 @@ pub fn access_code(request: RequestV2) -> u8
 
 // The command of a request.
 pub fn command_in(request: RequestV2) -> Command
-    ensures { result ≡ commandIn request }
+    ensures { result ≡ command_in request }
 {
     match request {
         RequestV2::Read(c) => c,
@@ -33,7 +33,7 @@ pub fn command_in(request: RequestV2) -> Command
 
 // The head of a request's frame.
 pub fn head_for(address: u16, request: RequestV2) -> frames::HeadV2
-    ensures { result ≡ headFor address request }
+    ensures { result ≡ head_for address request }
 {
     let access = access_code(request);
     let name = requests::command_bytes(command_in(request));
@@ -47,7 +47,7 @@ pub fn head_for(address: u16, request: RequestV2) -> frames::HeadV2
 
 // The data of a request: a write sends what a read of the setting sends after it, whatever else is held.
 pub fn data_v2(request: RequestV2, list: sources::Sources) -> buffer::Text
-    ensures { text_of result ≡ dataV2 request (list_of list) }
+    ensures { text_of result ≡ data_v2 request (list_of list) }
 {
     match request {
         RequestV2::Read(_) => buffer::Text::EMPTY,
@@ -77,7 +77,7 @@ pub fn six_digits(n: u32) -> buffer::Text
 
 // The letter of a request.
 pub fn letter_v1(request: RequestV1) -> u8
-    ensures { result ≡ letterV1 request }
+    ensures { result ≡ letter_v1 request }
 {
     match request {
         RequestV1::Measure => b'M',
@@ -91,7 +91,7 @@ pub fn letter_v1(request: RequestV1) -> u8
 
 // The data of a request.
 pub fn data_v1(request: RequestV1) -> buffer::Text
-    ensures { text_of result ≡ dataV1 request }
+    ensures { text_of result ≡ data_v1 request }
 {
     match request {
         RequestV1::Measure => buffer::Text::EMPTY,

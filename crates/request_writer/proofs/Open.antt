@@ -1,9 +1,9 @@
--- To compute with these definitions: `unfolding request-writer-open` opens every one of this crate, and those that they stand on.
-use Rattle.frame_writer.proofs.Open.{frame-writer-open}
-use Rattle.request_texts.proofs.Open.{request-texts-open}
-use Rattle.request_writer.specs.Typed.{limitedNumber, endsIn, typedDigit, judgedDigit, typedAddress, typedStream, typedVerdict, formedV2, formedV1}
-use Rattle.request_writer.specs.Written.{sentV2, requestWrittenV2, requestWrittenV1}
+-- To compute with these definitions: `unfolding request_writer_open` opens every one of this crate, and those that they stand on.
+use Rattle.frame_writer.proofs.Open.{frame_writer_open}
+use Rattle.request_texts.proofs.Open.{request_texts_open}
+use Rattle.request_writer.specs.Typed.{limited_number, ends_in, typed_digit, judged_digit, typed_address, typed_stream, typed_verdict, formed_v2, formed_v1}
+use Rattle.request_writer.specs.Written.{sent_v2, request_written_v2, request_written_v1}
 
-unfoldable pub request-writer-open : Unit {0}
-unfolding frame-writer-open request-texts-open limitedNumber endsIn typedDigit judgedDigit typedAddress typedStream typedVerdict formedV2 formedV1 sentV2 requestWrittenV2 requestWrittenV1
-request-writer-open = tt
+unfoldable pub request_writer_open : Unit {0}
+unfolding frame_writer_open request_texts_open limited_number ends_in typed_digit judged_digit typed_address typed_stream typed_verdict formed_v2 formed_v1 sent_v2 request_written_v2 request_written_v1
+request_writer_open = tt

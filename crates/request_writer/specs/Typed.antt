@@ -2,18 +2,18 @@
 use Rattle.std.specs.Prelude.{Bool, not, ◌&&◌, List, [], ◌∷◌, ℕ, ltb, leb, eqb, length}
 use Rattle.buffer.specs.First.{◌⇒◌, first, pick}
 use Rattle.buffer.specs.Byte.{within, every}
-use Rattle.decimal.specs.Exact.{normalOf}
+use Rattle.decimal.specs.Exact.{normal_of}
 use Rattle.decimal.specs.declared.Number.{Number}
 use Rattle.decimal.specs.declared.Exact.{Exact}
 use Rattle.decimal.specs.declared.Hundredths.TheVariants.{Whole}
-use Rattle.sources.specs.Source.{among, standOnce, list_of}
+use Rattle.sources.specs.Source.{among, stand_once, list_of}
 use Rattle.sources.specs.declared.Sources.{Sources}
-use Rattle.settings.specs.Limits.{ProfileLimits, standard, isFactor}
+use Rattle.settings.specs.Limits.{ProfileLimits, standard, is_factor}
 use Rattle.settings.specs.declared.Transition.{Transition}
 use Rattle.settings.specs.declared.Transition.TheVariants.{Direct, Between}
 use Rattle.settings.specs.declared.Setting.{Setting}
 use Rattle.settings.specs.declared.Setting.TheVariants.{Address, PressureIn, Factor, Control, Cathode, Filament, Switch, Stream}
-use Rattle.forms.specs.Forms.{factorIn, limitedOf, transitionOf}
+use Rattle.forms.specs.Forms.{factor_in, limited_of, transition_of}
 use Rattle.forms.specs.declared.Digit.{Digit}
 use Rattle.forms.specs.declared.Digit.TheVariants.{Is}
 use Rattle.forms.specs.declared.Limited.{Limited}
@@ -21,8 +21,8 @@ use Rattle.forms.specs.declared.Ends.{Ends}
 use Rattle.forms.specs.declared.Ends.TheVariants.{None, One, Two}
 use Rattle.forms.specs.declared.Verdict.{Verdict}
 use Rattle.forms.specs.declared.Verdict.TheVariants as verdict
-use Rattle.requests.specs.Command.{restore_code, lacksAccess}
-use Rattle.requests.specs.AskV2.{setOf}
+use Rattle.requests.specs.Command.{restore_code, lacks_access}
+use Rattle.requests.specs.AskV2.{set_of}
 use Rattle.requests.specs.declared.RequestV2.{RequestV2}
 use Rattle.requests.specs.declared.RequestV2.TheVariants.{Read, Restore, Set}
 use Rattle.requests.specs.declared.AskV2.{AskV2}
@@ -35,60 +35,60 @@ abbrev pub exactly : Number → Exact
 exactly n = record { negative = n.negative; digits = n.mantissa; up = n.place; down = 14 }
 
 -- a number of ST; "a number needing over six digits is 10"
-unfoldable pub limitedNumber : ProfileLimits → Number → Limited
-limitedNumber limits n = limitedOf limits (normalOf (exactly n))
+unfoldable pub limited_number : ProfileLimits → Number → Limited
+limited_number limits n = limited_of limits (normal_of (exactly n))
 
 -- VSH and VSM "accept only the `D` form of ST": the other one is none of theirs
-unfoldable pub endsIn : ProfileLimits → Transition → Ends
-endsIn limits (Direct n) = One (limitedNumber limits n)
-endsIn limits (Between low high) = pick limits.betweenForm (Two (limitedNumber limits low) (limitedNumber limits high)) None
+unfoldable pub ends_in : ProfileLimits → Transition → Ends
+ends_in limits (Direct n) = One (limited_number limits n)
+ends_in limits (Between low high) = pick limits.between_form (Two (limited_number limits low) (limited_number limits high)) None
 
 -- "One-digit settings: any other digit is RANGE, anything else SYNTAX"
-unfoldable pub typedDigit : ℕ → ℕ → Digit
-typedDigit most d = first (leb 10 d ⇒ Digit.Refused 10 ∷ ltb most d ⇒ Digit.Refused 11 ∷ []) (Is d)
+unfoldable pub typed_digit : ℕ → ℕ → Digit
+typed_digit most d = first (leb 10 d ⇒ Digit.Refused 10 ∷ ltb most d ⇒ Digit.Refused 11 ∷ []) (Is d)
 
 -- the setting x, whose digit is judged
-unfoldable pub judgedDigit : Setting → Digit → Verdict
-judgedDigit x (Is d) = verdict.Set x
-judgedDigit x (Digit.Refused k) = verdict.Refused k
+unfoldable pub judged_digit : Setting → Digit → Verdict
+judged_digit x (Is d) = verdict.Set x
+judged_digit x (Digit.Refused k) = verdict.Refused k
 
 -- DA; the type holds three digits at most
-unfoldable pub typedAddress : ℕ → Verdict
-typedAddress a = first (not (within standard.addressLow standard.addressHigh a) ⇒ verdict.Refused 11 ∷ []) (verdict.Set (Address a))
+unfoldable pub typed_address : ℕ → Verdict
+typed_address a = first (not (within standard.address_low standard.address_high a) ⇒ verdict.Refused 11 ∷ []) (verdict.Set (Address a))
 
 -- SM: "`0` with a list is SYNTAX"; a source that is not among the profile's is RANGE; "a repeat or a listed `0` is 12 LOGIC, after RANGE, at the
 -- writer .. too"
-unfoldable pub typedStream : ProfileLimits → Bool → List ℕ → Verdict
-typedStream limits on list =
+unfoldable pub typed_stream : ProfileLimits → Bool → List ℕ → Verdict
+typed_stream limits on list =
     first
     ((not on && not (eqb (length list) 0)) ⇒ verdict.Refused 10
-    ∷ not (every (among limits.sourceCodes) list) ⇒ verdict.Refused 11
-    ∷ not (standOnce list) ⇒ verdict.Refused 12
+    ∷ not (every (among limits.source_codes) list) ⇒ verdict.Refused 11
+    ∷ not (stand_once list) ⇒ verdict.Refused 12
     ∷ [])
     (verdict.Set (Stream on))
 
 -- a typed write: the setting with its numbers canonical, or the first refusal that applies. The list counts for SM only
-unfoldable pub typedVerdict : ProfileLimits → Setting → Sources → Verdict
-typedVerdict limits (Address a) q = typedAddress a
-typedVerdict limits (PressureIn u) q = verdict.Set (PressureIn u)
-typedVerdict limits (Factor h) q = factorIn (Whole h)
-typedVerdict limits (Control d) q = judgedDigit (Control d) (typedDigit standard.controlHigh d)
-typedVerdict limits (Cathode d) q = judgedDigit (Cathode d) (typedDigit standard.cathodeHigh d)
-typedVerdict limits (Filament d) q = judgedDigit (Filament d) (typedDigit standard.filamentHigh d)
-typedVerdict limits (Switch t) q = transitionOf (endsIn limits t)
-typedVerdict limits (Stream on) q = typedStream limits on (list_of q)
+unfoldable pub typed_verdict : ProfileLimits → Setting → Sources → Verdict
+typed_verdict limits (Address a) q = typed_address a
+typed_verdict limits (PressureIn u) q = verdict.Set (PressureIn u)
+typed_verdict limits (Factor h) q = factor_in (Whole h)
+typed_verdict limits (Control d) q = judged_digit (Control d) (typed_digit standard.control_high d)
+typed_verdict limits (Cathode d) q = judged_digit (Cathode d) (typed_digit standard.cathode_high d)
+typed_verdict limits (Filament d) q = judged_digit (Filament d) (typed_digit standard.filament_high d)
+typed_verdict limits (Switch t) q = transition_of (ends_in limits t)
+typed_verdict limits (Stream on) q = typed_stream limits on (list_of q)
 
 -- a typed V2 request: 9 where the command lacks the access
-unfoldable pub formedV2 : ProfileLimits → RequestV2 → Sources → AskV2
-formedV2 limits (Read c) q = Asks (Read c)
-formedV2 limits (Restore c) q = first (lacksAccess restore_code c ⇒ AskV2.Refused 9 ∷ []) (Asks (Restore c))
-formedV2 limits (Set x) q = setOf (typedVerdict limits x q)
+unfoldable pub formed_v2 : ProfileLimits → RequestV2 → Sources → AskV2
+formed_v2 limits (Read c) q = Asks (Read c)
+formed_v2 limits (Restore c) q = first (lacks_access restore_code c ⇒ AskV2.Refused 9 ∷ []) (Asks (Restore c))
+formed_v2 limits (Set x) q = set_of (typed_verdict limits x q)
 
 -- a typed V1 request: `c` writes six digits, "20 to 800"
-unfoldable pub formedV1 : RequestV1 → ℕ
-formedV1 Measure = 0
-formedV1 ReadFactor = 0
-formedV1 Unlock = 0
-formedV1 (SetFactor n) = first (leb 1000000 n ⇒ 10 ∷ not (isFactor n) ⇒ 11 ∷ []) 0
-formedV1 ReadUnit = 0
-formedV1 (SetUnit u) = 0
+unfoldable pub formed_v1 : RequestV1 → ℕ
+formed_v1 Measure = 0
+formed_v1 ReadFactor = 0
+formed_v1 Unlock = 0
+formed_v1 (SetFactor n) = first (leb 1000000 n ⇒ 10 ∷ not (is_factor n) ⇒ 11 ∷ []) 0
+formed_v1 ReadUnit = 0
+formed_v1 (SetUnit u) = 0

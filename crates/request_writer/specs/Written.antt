@@ -3,7 +3,7 @@
 use Rattle.std.specs.Prelude.{not, List, [], ◌∷◌, ℕ, ltb, eqb}
 use Rattle.buffer.specs.First.{◌⇒◌, first}
 use Rattle.buffer.specs.Answer.{Answer, silent}
-use Rattle.frame_writer.specs.Written.{frameV1, frameV2, isAddress}
+use Rattle.frame_writer.specs.Written.{frame_v1, frame_v2, is_address}
 use Rattle.sources.specs.Source.{list_of}
 use Rattle.sources.specs.declared.Sources.{Sources}
 use Rattle.settings.specs.Limits.{ProfileLimits}
@@ -11,31 +11,31 @@ use Rattle.requests.specs.declared.RequestV2.{RequestV2}
 use Rattle.requests.specs.declared.AskV2.{AskV2}
 use Rattle.requests.specs.declared.AskV2.TheVariants.{Asks, Refused}
 use Rattle.requests.specs.declared.RequestV1.{RequestV1}
-use Rattle.request_texts.specs.RequestText.{headFor, dataV2, headForV1, dataV1}
-use Rattle.request_writer.specs.Typed.{formedV2, formedV1}
+use Rattle.request_texts.specs.RequestText.{head_for, data_v2, head_for_v1, data_v1}
+use Rattle.request_writer.specs.Typed.{formed_v2, formed_v1}
 
 -- "less than 109 bytes lent", for V1 too
-abbrev pub writerRoom : ℕ
-writerRoom = 109
+abbrev pub writer_room : ℕ
+writer_room = 109
 
 -- the frame of a request, or the refusal
-unfoldable pub sentV2 : ℕ → AskV2 → List ℕ → Answer
-sentV2 address (Asks r) list = record { number = 0; reply = frameV2 (headFor address r) (dataV2 r list) }
-sentV2 address (Refused k) list = silent k
+unfoldable pub sent_v2 : ℕ → AskV2 → List ℕ → Answer
+sent_v2 address (Asks r) list = record { number = 0; reply = frame_v2 (head_for address r) (data_v2 r list) }
+sent_v2 address (Refused k) list = silent k
 
-unfoldable pub requestWrittenV2 : ProfileLimits → ℕ → ℕ → RequestV2 → Sources → Answer
-requestWrittenV2 limits room address r q =
+unfoldable pub request_written_v2 : ProfileLimits → ℕ → ℕ → RequestV2 → Sources → Answer
+request_written_v2 limits room address r q =
     first
-    (ltb room writerRoom ⇒ silent 1
-    ∷ not (isAddress address) ⇒ silent 4
+    (ltb room writer_room ⇒ silent 1
+    ∷ not (is_address address) ⇒ silent 4
     ∷ [])
-    (sentV2 address (formedV2 limits r q) (list_of q))
+    (sent_v2 address (formed_v2 limits r q) (list_of q))
 
-unfoldable pub requestWrittenV1 : ℕ → ℕ → RequestV1 → Answer
-requestWrittenV1 room address r =
+unfoldable pub request_written_v1 : ℕ → ℕ → RequestV1 → Answer
+request_written_v1 room address r =
     first
-    (ltb room writerRoom ⇒ silent 1
-    ∷ not (isAddress address) ⇒ silent 4
-    ∷ not (eqb (formedV1 r) 0) ⇒ silent (formedV1 r)
+    (ltb room writer_room ⇒ silent 1
+    ∷ not (is_address address) ⇒ silent 4
+    ∷ not (eqb (formed_v1 r) 0) ⇒ silent (formed_v1 r)
     ∷ [])
-    (record { number = 0; reply = frameV1 (headForV1 address r) (dataV1 r) })
+    (record { number = 0; reply = frame_v1 (head_for_v1 address r) (data_v1 r) })

@@ -1,11 +1,11 @@
 // The master's requests to a text gauge, written into lent memory (document 01, "The master's side").
 ghost use Rattle.std.specs.Prelude.{◌≡◌, true, not, ◌&&◌, ◌≤◌, eqb, length};
-ghost use Rattle.frame_writer.specs.Written.{isAddress};
+ghost use Rattle.frame_writer.specs.Written.{is_address};
 ghost use Rattle.buffer.specs.Answer.{Sent};
 ghost use Rattle.sources.specs.Source.{list_of};
-ghost use Rattle.settings.specs.Limits.{limitsOf};
-ghost use Rattle.request_writer.specs.Typed.{limitedNumber, endsIn, typedDigit, typedAddress, typedStream, judgedDigit, typedVerdict, formedV2, formedV1};
-ghost use Rattle.request_writer.specs.Written.{sentV2, requestWrittenV2, requestWrittenV1};
+ghost use Rattle.settings.specs.Limits.{limits_of};
+ghost use Rattle.request_writer.specs.Typed.{limited_number, ends_in, typed_digit, typed_address, typed_stream, judged_digit, typed_verdict, formed_v2, formed_v1};
+ghost use Rattle.request_writer.specs.Written.{sent_v2, request_written_v2, request_written_v1};
 
 use forms::{Digit, Ends, Verdict};
 use requests::{AskV2, RequestV1, RequestV2};
@@ -18,7 +18,7 @@ pub const ROOM: usize = 109;
 
 // A number of ST, judged by its value.
 fn limited_number(profile: sources::Profile, n: decimal::Number) -> forms::Limited
-    ensures { result ≡ limitedNumber (limitsOf profile) n }
+    ensures { result ≡ limited_number (limits_of profile) n }
 {
     let exact = decimal::Exact {
         negative: n.negative,
@@ -31,7 +31,7 @@ fn limited_number(profile: sources::Profile, n: decimal::Number) -> forms::Limit
 
 // The numbers of a typed transition. The form of two numbers is one of the profile's, or none.
 fn ends_in(profile: sources::Profile, t: settings::Transition) -> Ends
-    ensures { result ≡ endsIn (limitsOf profile) t }
+    ensures { result ≡ ends_in (limits_of profile) t }
 {
     match t {
         settings::Transition::Direct(n) => Ends::One(limited_number(profile, n)),
@@ -46,7 +46,7 @@ fn ends_in(profile: sources::Profile, t: settings::Transition) -> Ends
 
 // A one-digit setting, up to `most`.
 fn typed_digit(most: u8, d: u8) -> Digit
-    ensures { result ≡ typedDigit most d }
+    ensures { result ≡ typed_digit most d }
 {
     if 10 <= d {
         return Digit::Refused(10);
@@ -58,7 +58,7 @@ fn typed_digit(most: u8, d: u8) -> Digit
 }
 
 fn typed_address(a: u8) -> Verdict
-    ensures { result ≡ typedAddress a }
+    ensures { result ≡ typed_address a }
 {
     if !buffer::is_within(a, Settings::ADDRESS_MIN, Settings::ADDRESS_MAX) {
         return Verdict::Refused(11);
@@ -77,7 +77,7 @@ fn is_idle_list(on: bool, count: usize) -> bool
 }
 
 fn typed_stream(profile: sources::Profile, on: bool, q: sources::Sources) -> Verdict
-    ensures { result ≡ typedStream (limitsOf profile) on (list_of q) }
+    ensures { result ≡ typed_stream (limits_of profile) on (list_of q) }
 {
     if is_idle_list(on, q.size()) {
         return Verdict::Refused(10);
@@ -92,7 +92,7 @@ fn typed_stream(profile: sources::Profile, on: bool, q: sources::Sources) -> Ver
 }
 
 fn digit_verdict(x: Setting, d: Digit) -> Verdict
-    ensures { result ≡ judgedDigit x d }
+    ensures { result ≡ judged_digit x d }
 {
     match d {
         Digit::Is(_) => Verdict::Set(x),
@@ -102,7 +102,7 @@ fn digit_verdict(x: Setting, d: Digit) -> Verdict
 
 // A typed write to a gauge of this profile: the setting with its numbers canonical, or the refusal's number.
 pub fn judge_setting(profile: sources::Profile, x: Setting, q: sources::Sources) -> Verdict
-    ensures { result ≡ typedVerdict (limitsOf profile) x q }
+    ensures { result ≡ typed_verdict (limits_of profile) x q }
 {
     match x {
         Setting::Address(a) => typed_address(a),
@@ -118,7 +118,7 @@ pub fn judge_setting(profile: sources::Profile, x: Setting, q: sources::Sources)
 
 // A typed V2 request with its numbers canonical, or the refusal's number.
 fn formed_v2(profile: sources::Profile, request: RequestV2, q: sources::Sources) -> AskV2
-    ensures { result ≡ formedV2 (limitsOf profile) request q }
+    ensures { result ≡ formed_v2 (limits_of profile) request q }
 {
     match request {
         RequestV2::Read(_) => AskV2::Asks(request),
@@ -137,7 +137,7 @@ fn formed_v2(profile: sources::Profile, request: RequestV2, q: sources::Sources)
 
 // The number of a typed V1 request.
 fn formed_v1(request: RequestV1) -> u8
-    ensures { result ≡ formedV1 request }
+    ensures { result ≡ formed_v1 request }
 {
     let RequestV1::SetFactor(n) = request else {
         return 0;
@@ -164,8 +164,8 @@ fn refused(number: u8) -> buffer::Written
 
 // Writes the frame of a request that is formed.
 fn send_v2(out: &mut [u8], address: u16, ask: AskV2, q: sources::Sources) -> buffer::Written
-    requires { (34 ≤ length out.old) × (isAddress address ≡ true) }
-    ensures { Sent out.old (sentV2 address ask (list_of q)) out.new result }
+    requires { (34 ≤ length out.old) × (is_address address ≡ true) }
+    ensures { Sent out.old (sent_v2 address ask (list_of q)) out.new result }
 {
     match ask {
         AskV2::Refused(k) => refused(k),
@@ -185,7 +185,7 @@ pub fn write_request_v2(
     request: RequestV2,
     q: sources::Sources,
 ) -> buffer::Written
-    ensures { Sent out.old (requestWrittenV2 (limitsOf profile) (length out.old) address request q) out.new result }
+    ensures { Sent out.old (request_written_v2 (limits_of profile) (length out.old) address request q) out.new result }
 {
     if out.len() < ROOM {
         return refused(1);
@@ -198,7 +198,7 @@ pub fn write_request_v2(
 
 // Writes a V1 request. Refuses as write_request_v2 does.
 pub fn write_request_v1(out: &mut [u8], address: u16, request: RequestV1) -> buffer::Written
-    ensures { Sent out.old (requestWrittenV1 (length out.old) address request) out.new result }
+    ensures { Sent out.old (request_written_v1 (length out.old) address request) out.new result }
 {
     if out.len() < ROOM {
         return refused(1);

@@ -1,10 +1,10 @@
 -- Document 01, "V1 on the same settings": what a V1 frame asks, or the first refusal that applies whatever the state.
 use Rattle.std.specs.Prelude.{Bool, not, ◌&&◌, List, [], ◌∷◌, ℕ, eqb, length}
 use Rattle.buffer.specs.First.{◌⇒◌, first, pick}
-use Rattle.buffer.specs.Byte.{isDigit, every, numeral}
-use Rattle.settings.specs.Units.{unitNamed}
+use Rattle.buffer.specs.Byte.{is_digit, every, numeral}
+use Rattle.settings.specs.Units.{unit_named}
 use Rattle.settings.specs.declared.PressureUnit.{PressureUnit}
-use Rattle.forms.specs.Forms.{digitData}
+use Rattle.forms.specs.Forms.{digit_data}
 use Rattle.forms.specs.declared.Digit.{Digit}
 use Rattle.forms.specs.declared.Digit.TheVariants.{Is}
 use Rattle.requests.specs.declared.RequestV1.{RequestV1}
@@ -12,33 +12,33 @@ use Rattle.requests.specs.declared.RequestV1.TheVariants.{Measure, ReadFactor, U
 use Rattle.requests.specs.declared.AskV1.{AskV1}
 use Rattle.requests.specs.declared.AskV1.TheVariants.{Asks}
 
-unfoldable pub sixDigits : List ℕ → Bool
-sixDigits s = eqb (length s) 6 && every isDigit s
+unfoldable pub six_digits : List ℕ → Bool
+six_digits s = eqb (length s) 6 && every is_digit s
 
 -- "(no data)"
-unfoldable pub bareOf : List ℕ → RequestV1 → AskV1
-bareOf s r = first (not (eqb (length s) 0) ⇒ AskV1.Refused 10 ∷ []) (Asks r)
+unfoldable pub bare_of : List ℕ → RequestV1 → AskV1
+bare_of s r = first (not (eqb (length s) 0) ⇒ AskV1.Refused 10 ∷ []) (Asks r)
 
 -- "with one digit: 1 only, else RANGE"
-unfoldable pub digitOne : Digit → RequestV1 → AskV1
-digitOne (Is d) r = first (not (eqb d 1) ⇒ AskV1.Refused 11 ∷ []) (Asks r)
-digitOne (Digit.Refused k) r = AskV1.Refused k
+unfoldable pub digit_one : Digit → RequestV1 → AskV1
+digit_one (Is d) r = first (not (eqb d 1) ⇒ AskV1.Refused 11 ∷ []) (Asks r)
+digit_one (Digit.Refused k) r = AskV1.Refused k
 
 unfoldable pub one_of : List ℕ → RequestV1 → AskV1
-one_of s r = digitOne (digitData 9 s) r
+one_of s r = digit_one (digit_data 9 s) r
 
 -- "000000 mbar, 000001 Torr, 000002 hPa, else RANGE"
 unfoldable pub unit_at : ℕ → AskV1
-unit_at n = unitNamed (λ (u : PressureUnit). Asks (SetUnit u)) (AskV1.Refused 11) n
+unit_at n = unit_named (λ (u : PressureUnit). Asks (SetUnit u)) (AskV1.Refused 11) n
 
 -- `M`, `C`, `c`, `U`, `u`. (The number of a `c` with six digits is not judged here: a locked gauge answers LOGIC before it looks at the number.)
-unfoldable pub askV1 : ℕ → List ℕ → AskV1
-askV1 letter s =
+unfoldable pub ask_v1 : ℕ → List ℕ → AskV1
+ask_v1 letter s =
     first
-    (eqb letter 77 ⇒ bareOf s Measure
+    (eqb letter 77 ⇒ bare_of s Measure
     ∷ eqb letter 67 ⇒ one_of s ReadFactor
-    ∷ eqb letter 99 ⇒ pick (sixDigits s) (Asks (SetFactor (numeral s))) (one_of s Unlock)
-    ∷ eqb letter 85 ⇒ bareOf s ReadUnit
-    ∷ eqb letter 117 ⇒ pick (sixDigits s) (unit_at (numeral s)) (AskV1.Refused 10)
+    ∷ eqb letter 99 ⇒ pick (six_digits s) (Asks (SetFactor (numeral s))) (one_of s Unlock)
+    ∷ eqb letter 85 ⇒ bare_of s ReadUnit
+    ∷ eqb letter 117 ⇒ pick (six_digits s) (unit_at (numeral s)) (AskV1.Refused 10)
     ∷ [])
     (AskV1.Refused 8)

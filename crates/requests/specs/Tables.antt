@@ -6,8 +6,8 @@ use Rattle.buffer.specs.Byte.{at}
 use Rattle.buffer.specs.Quoted.{bytes}
 use Rattle.settings.specs.declared.Key.TheVariants.{DA, DU, C1, CM, CC, FC, ST, SM}
 use Rattle.settings.specs.declared.PressureUnit.TheVariants.{Mbar, Torr, HPa}
-use Rattle.requests.specs.Command.{read_code, writeCode, restore_code, lacksAccess}
-use Rattle.requests.specs.AskV1.{askV1}
+use Rattle.requests.specs.Command.{read_code, write_code, restore_code, lacks_access}
+use Rattle.requests.specs.AskV1.{ask_v1}
 use Rattle.requests.specs.declared.Command.{Command}
 use Rattle.requests.specs.declared.Command.TheVariants.{MV, T2, FN, FS, Of}
 use Rattle.requests.specs.declared.RequestV1.TheVariants.{Measure, ReadFactor, Unlock, SetFactor, ReadUnit, SetUnit}
@@ -24,8 +24,8 @@ pub record AccessRow : Type 0 where
 abbrev pub has : Command → Bool → Bool → Bool → AccessRow
 has command read write restore = record { command = command; accesses = read ∷ write ∷ restore ∷ [] }
 
-abbrev pub accessTable : List AccessRow
-accessTable =
+abbrev pub access_table : List AccessRow
+access_table =
     -- read, write, default
     has MV true false false
     ∷ has T2 true false false
@@ -41,11 +41,11 @@ accessTable =
     ∷ has (Of SM) true true false
     ∷ []
 
-abbrev pub accessesOf : AccessRow → List Bool
-accessesOf r = map (λ (access : ℕ). not (lacksAccess access r.command)) (read_code ∷ writeCode ∷ restore_code ∷ [])
+abbrev pub accesses_of : AccessRow → List Bool
+accesses_of r = map (λ (access : ℕ). not (lacks_access access r.command)) (read_code ∷ write_code ∷ restore_code ∷ [])
 
-abbrev pub accessesPrinted : AccessRow → List Bool
-accessesPrinted r = r.accesses
+abbrev pub accesses_printed : AccessRow → List Bool
+accesses_printed r = r.accesses
 
 -- ---- V1's letters: "`M` (no data)"; "`C` and `c` with one digit: 1 only, else RANGE"; `c` with six digits, whose number the gauge judges;
 -- "`U` (no data) reads, `u` with six digits writes 000000 mbar, 000001 Torr, 000002 hPa, else RANGE"
@@ -58,8 +58,8 @@ pub record LetterRow : Type 0 where
 abbrev pub v1 : String → String → AskV1 → LetterRow
 v1 letter text ask = record { letter = bytes letter; text = bytes text; ask = ask }
 
-abbrev pub letterTable : List LetterRow
-letterTable =
+abbrev pub letter_table : List LetterRow
+letter_table =
     v1 "M" "" (Asks Measure)
     ∷ v1 "M" "1" (Refused 10)
     ∷ v1 "M" "a" (Refused 10)
@@ -111,8 +111,8 @@ letterTable =
     ∷ v1 "z" "000001" (Refused 8)
     ∷ []
 
-abbrev pub letterAsks : LetterRow → AskV1
-letterAsks r = askV1 (at r.letter 0) r.text
+abbrev pub letter_asks : LetterRow → AskV1
+letter_asks r = ask_v1 (at r.letter 0) r.text
 
-abbrev pub letterPrinted : LetterRow → AskV1
-letterPrinted r = r.ask
+abbrev pub letter_printed : LetterRow → AskV1
+letter_printed r = r.ask

@@ -2,10 +2,10 @@
 // gauge's state.
 ghost use Rattle.std.specs.Prelude.{◌≡◌, []};
 ghost use Rattle.sources.specs.Source.{list_of, Counted};
-ghost use Rattle.settings.specs.Limits.{limitsOf};
-ghost use Rattle.requests.specs.Command.{commandOf, commandText, isAccess, can_write, canRestore, lacksAccess};
-ghost use Rattle.requests.specs.AskV2.{setOf, AsksV2, Writes};
-ghost use Rattle.requests.specs.AskV1.{sixDigits, bareOf, one_of, unit_at, askV1};
+ghost use Rattle.settings.specs.Limits.{limits_of};
+ghost use Rattle.requests.specs.Command.{command_of, command_text, is_access, can_write, can_restore, lacks_access};
+ghost use Rattle.requests.specs.AskV2.{set_of, AsksV2, Writes};
+ghost use Rattle.requests.specs.AskV1.{six_digits, bare_of, one_of, unit_at, ask_v1};
 ghost use Rattle.requests.specs.declared.AskV2.{AskV2};
 ghost use Rattle.requests.specs.declared.Command.{Command};
 
@@ -52,7 +52,7 @@ pub enum Named {
 
 // The command that two bytes name.
 pub fn command_of(first: u8, second: u8) -> Named
-    ensures { result ≡ commandOf first second }
+    ensures { result ≡ command_of first second }
 {
     match first as u16 * 256 + second as u16 {
         // MV
@@ -85,7 +85,7 @@ pub fn command_of(first: u8, second: u8) -> Named
 
 // The two characters of a command.
 pub fn command_bytes(command: Command) -> [u8; 2]
-    ensures { result ≡ commandText command }
+    ensures { result ≡ command_text command }
 {
     match command {
         Command::MV => [b'M', b'V'],
@@ -98,7 +98,7 @@ pub fn command_bytes(command: Command) -> [u8; 2]
 
 // The two characters of a setting's command.
 fn key_bytes(key: settings::Key) -> [u8; 2]
-    ensures { result ≡ commandText (Command.Of key) }
+    ensures { result ≡ command_text (Command.Of key) }
 {
     match key {
         settings::Key::DA => [b'D', b'A'],
@@ -114,7 +114,7 @@ fn key_bytes(key: settings::Key) -> [u8; 2]
 
 // Whether an access code is read, write or factory default.
 fn is_access(access: u8) -> bool
-    ensures { result ≡ isAccess access }
+    ensures { result ≡ is_access access }
 {
     if access == b'0' {
         return true;
@@ -138,7 +138,7 @@ fn can_write(command: Command) -> bool
 }
 
 fn can_restore(command: Command) -> bool
-    ensures { result ≡ canRestore command }
+    ensures { result ≡ can_restore command }
 {
     match command {
         Command::MV => false,
@@ -160,7 +160,7 @@ fn can_restore(command: Command) -> bool
 
 // Whether a command lacks an access.
 pub fn lacks_access(access: u8, command: Command) -> bool
-    ensures { result ≡ lacksAccess access command }
+    ensures { result ≡ lacks_access access command }
 {
     if access == b'2' {
         return !can_write(command);
@@ -181,7 +181,7 @@ fn plain(ask: AskV2) -> AskedV2
 }
 
 fn set_of(verdict: forms::Verdict) -> AskV2
-    ensures { result ≡ setOf verdict }
+    ensures { result ≡ set_of verdict }
 {
     match verdict {
         forms::Verdict::Set(x) => AskV2::Asks(RequestV2::Set(x)),
@@ -191,7 +191,7 @@ fn set_of(verdict: forms::Verdict) -> AskV2
 
 // A write of a command.
 fn write_of(profile: sources::Profile, command: Command, bytes: &[u8]) -> AskedV2
-    ensures { Writes (limitsOf profile) command bytes.now result }
+    ensures { Writes (limits_of profile) command bytes.now result }
 {
     let Command::Of(key) = command else {
         return plain(AskV2::Refused(9));
@@ -207,7 +207,7 @@ fn write_of(profile: sources::Profile, command: Command, bytes: &[u8]) -> AskedV
 
 // What a V2 frame with this head and these data asks of a gauge of this profile.
 pub fn read_v2(profile: sources::Profile, head: frames::HeadV2, bytes: &[u8]) -> AskedV2
-    ensures { AsksV2 (limitsOf profile) head bytes.now result }
+    ensures { AsksV2 (limits_of profile) head bytes.now result }
 {
     let access = head.access;
     if !is_access(access) {
@@ -259,7 +259,7 @@ pub enum AskV1 {
 
 // Whether a text is six digits.
 pub fn has_six_digits(s: &[u8]) -> bool
-    ensures { result ≡ sixDigits s.now }
+    ensures { result ≡ six_digits s.now }
 {
     if s.len() != 6 {
         return false;
@@ -269,7 +269,7 @@ pub fn has_six_digits(s: &[u8]) -> bool
 
 // A request that has no data.
 fn bare(s: &[u8], request: RequestV1) -> AskV1
-    ensures { result ≡ bareOf s.now request }
+    ensures { result ≡ bare_of s.now request }
 {
     if s.len() != 0 {
         return AskV1::Refused(10);
@@ -304,7 +304,7 @@ fn unit_at(n: u32) -> AskV1
 
 // What a V1 frame with this letter and these data asks.
 pub fn read_v1(letter: u8, bytes: &[u8]) -> AskV1
-    ensures { result ≡ askV1 letter bytes.now }
+    ensures { result ≡ ask_v1 letter bytes.now }
 {
     match letter {
         b'M' => bare(bytes, RequestV1::Measure),

@@ -7,25 +7,25 @@ use Prim.Native.Nat.{ℕ, ◌+◌, ◌-◌}
 use lib.Dec.{eqb, leb, ltb}
 use lib.ListN.{length, take, drop}
 use Rattle.buffer.specs.First.{pick}
-use Rattle.buffer.specs.Byte.{at, within, isDigit, every, sameText, untilOf, numeral, leading, starts_with}
+use Rattle.buffer.specs.Byte.{at, within, is_digit, every, same_text, until_of, numeral, leading, starts_with}
 use Rattle.buffer.proofs.Rules.{each}
-use Rattle.decimal.specs.Form.{unsignedOf, scanOf, parsedOf, number_of}
-use Rattle.decimal.specs.Number.{belowOf, hundredthsOf}
+use Rattle.decimal.specs.Form.{unsigned_of, scan_of, parsed_of, number_of}
+use Rattle.decimal.specs.Number.{below_of, hundredths_of}
 use Rattle.decimal.specs.declared.Parsed.{Parsed}
 use Rattle.decimal.specs.declared.Parsed.TheVariants.{Value, Syntax, Range}
 use Rattle.decimal.specs.declared.Hundredths.{Hundredths}
 use Rattle.decimal.specs.declared.Hundredths.TheVariants.{Whole, Other}
-use Rattle.sources.specs.Entries.{entriesNumber}
-use Rattle.settings.specs.Limits.{ProfileLimits, standard, isFactor}
-use Rattle.settings.specs.Sent.{unitText}
+use Rattle.sources.specs.Entries.{entries_number}
+use Rattle.settings.specs.Limits.{ProfileLimits, standard, is_factor}
+use Rattle.settings.specs.Sent.{unit_text}
 use Rattle.settings.specs.declared.PressureUnit.TheVariants.{Mbar, Torr, HPa}
 use Rattle.settings.specs.declared.Transition.TheVariants.{Between}
 use Rattle.settings.specs.declared.Key.{Key}
 use Rattle.settings.specs.declared.Key.TheVariants.{DA, DU, C1, CM, CC, FC, ST, SM}
 use Rattle.settings.specs.declared.Setting.{Setting}
 use Rattle.settings.specs.declared.Setting.TheVariants.{PressureIn, Factor, Control, Cathode, Filament, Switch, Stream}
-use Rattle.forms.specs.Forms.{addressData, unitData, factorIn, factorOf, digitData, digitOf, limitedOf, directOf, betweenOf, endsOf, transitionOf, transitionData, idleList, knownMode, streamOf, streamData}
-use Rattle.forms.specs.Judged.{verdictOf}
+use Rattle.forms.specs.Forms.{address_data, unit_data, factor_in, factor_of, digit_data, digit_of, limited_of, direct_of, between_of, ends_of, transition_of, transition_data, idle_list, known_mode, stream_of, stream_data}
+use Rattle.forms.specs.Judged.{verdict_of}
 use Rattle.forms.specs.declared.Ends.{Ends}
 use Rattle.forms.specs.declared.Ends.TheVariants.{None, One}
 use Rattle.forms.specs.declared.Digit.{Digit}
@@ -62,119 +62,119 @@ abbrev Told : Verdict → Type 0
 Told (Set x) = Unit {0}
 Told (Verdict.Refused k) = Number k
 
-address-told : (s : List ℕ) → Told (addressData s)
-unfolding addressData
-address-told s =
+address_told : (s : List ℕ) → Told (address_data s)
+unfolding address_data
+address_told s =
     each Told (not (eqb (length s) 3)) (Verdict.Refused 10) _ (λ _. syntax)
-    (λ _. each Told (not (every isDigit s)) (Verdict.Refused 10) _ (λ _. syntax)
-    (λ _. each Told (not (within standard.addressLow standard.addressHigh (numeral s))) (Verdict.Refused 11) _ (λ _. range) (λ _. tt)))
+    (λ _. each Told (not (every is_digit s)) (Verdict.Refused 10) _ (λ _. syntax)
+    (λ _. each Told (not (within standard.address_low standard.address_high (numeral s))) (Verdict.Refused 11) _ (λ _. range) (λ _. tt)))
 
-unit-told : (s : List ℕ) → Told (unitData s)
-unfolding unitData
-unit-told s =
-    each Told (sameText s (unitText Mbar)) (Set (PressureIn Mbar)) _ (λ _. tt)
-    (λ _. each Told (sameText s (unitText Torr)) (Set (PressureIn Torr)) _ (λ _. tt)
-    (λ _. each Told (sameText s (unitText HPa)) (Set (PressureIn HPa)) (Verdict.Refused 10) (λ _. tt) (λ _. syntax)))
+unit_told : (s : List ℕ) → Told (unit_data s)
+unfolding unit_data
+unit_told s =
+    each Told (same_text s (unit_text Mbar)) (Set (PressureIn Mbar)) _ (λ _. tt)
+    (λ _. each Told (same_text s (unit_text Torr)) (Set (PressureIn Torr)) _ (λ _. tt)
+    (λ _. each Told (same_text s (unit_text HPa)) (Set (PressureIn HPa)) (Verdict.Refused 10) (λ _. tt) (λ _. syntax)))
 
-factor-in-told : (h : Hundredths) → Told (factorIn h)
-unfolding factorIn
-factor-in-told (Whole h) = each Told (not (isFactor h)) (Verdict.Refused 11) (Set (Factor h)) (λ _. range) (λ _. tt)
-factor-in-told Other = range
+factor_in_told : (h : Hundredths) → Told (factor_in h)
+unfolding factor_in
+factor_in_told (Whole h) = each Told (not (is_factor h)) (Verdict.Refused 11) (Set (Factor h)) (λ _. range) (λ _. tt)
+factor_in_told Other = range
 
-factor-told : (p : Parsed) → Told (factorOf p)
-unfolding factorOf
-factor-told Syntax = syntax
-factor-told Range = range
-factor-told (Value n) = each Told n.negative (Verdict.Refused 11) (factorIn (hundredthsOf n)) (λ _. range) (λ _. factor-in-told (hundredthsOf n))
+factor_told : (p : Parsed) → Told (factor_of p)
+unfolding factor_of
+factor_told Syntax = syntax
+factor_told Range = range
+factor_told (Value n) = each Told n.negative (Verdict.Refused 11) (factor_in (hundredths_of n)) (λ _. range) (λ _. factor_in_told (hundredths_of n))
 
 abbrev Read : Digit → Type 0
 Read (Is d) = Unit {0}
 Read (Digit.Refused k) = Low k
 
-digit-read : (most : ℕ) (s : List ℕ) → Read (digitData most s)
-unfolding digitData
-digit-read most s =
+digit_read : (most : ℕ) (s : List ℕ) → Read (digit_data most s)
+unfolding digit_data
+digit_read most s =
     each Read (not (eqb (length s) 1)) (Digit.Refused 10) _ (λ _. inl refl)
-    (λ _. each Read (not (isDigit (at s 0))) (Digit.Refused 10) _ (λ _. inl refl)
+    (λ _. each Read (not (is_digit (at s 0))) (Digit.Refused 10) _ (λ _. inl refl)
     (λ _. each Read (ltb most (at s 0 - 48)) (Digit.Refused 11) (Is (at s 0 - 48)) (λ _. inr refl) (λ _. tt)))
 
-digit-told : (setting : ℕ → Setting) (r : Digit) → Read r → Told (digitOf setting r)
-unfolding digitOf
-digit-told setting (Is d) h = tt
-digit-told setting (Digit.Refused k) h = any k h
+digit_told : (setting : ℕ → Setting) (r : Digit) → Read r → Told (digit_of setting r)
+unfolding digit_of
+digit_told setting (Is d) h = tt
+digit_told setting (Digit.Refused k) h = any k h
 
 abbrev Passed : Limited → Type 0
 Passed (Fine n) = Unit {0}
 Passed (Limited.Refused k) = Low k
 
-limited-passed : (limits : ProfileLimits) (p : Parsed) → Passed (limitedOf limits p)
-unfolding limitedOf
-limited-passed limits Syntax = inl refl
-limited-passed limits Range = inr refl
-limited-passed limits (Value n) =
-    each Passed (belowOf n limits.transitionLow) (Limited.Refused 11) _ (λ _. inr refl)
-    (λ _. each Passed (belowOf limits.transitionHigh n) (Limited.Refused 11) (Fine n) (λ _. inr refl) (λ _. tt))
+limited_passed : (limits : ProfileLimits) (p : Parsed) → Passed (limited_of limits p)
+unfolding limited_of
+limited_passed limits Syntax = inl refl
+limited_passed limits Range = inr refl
+limited_passed limits (Value n) =
+    each Passed (below_of n limits.transition_low) (Limited.Refused 11) _ (λ _. inr refl)
+    (λ _. each Passed (below_of limits.transition_high n) (Limited.Refused 11) (Fine n) (λ _. inr refl) (λ _. tt))
 
-direct-told : (r : Limited) → Passed r → Told (directOf r)
-unfolding directOf
-direct-told (Fine n) h = tt
-direct-told (Limited.Refused k) h = any k h
+direct_told : (r : Limited) → Passed r → Told (direct_of r)
+unfolding direct_of
+direct_told (Fine n) h = tt
+direct_told (Limited.Refused k) h = any k h
 
 -- of two refusals the lesser number
-between-told : (a b : Limited) → Passed a → Passed b → Told (betweenOf a b)
-unfolding betweenOf
-between-told (Fine a) (Fine b) h l = each Told (not (belowOf a b)) (Verdict.Refused 12) (Set (Switch (Between a b))) (λ _. inr (inr refl)) (λ _. tt)
-between-told (Fine a) (Limited.Refused k) h l = any k l
-between-told (Limited.Refused j) (Fine b) h l = any j h
-between-told (Limited.Refused j) (Limited.Refused k) (inl e) (inl f) = rw (e, f) syntax
-between-told (Limited.Refused j) (Limited.Refused k) (inl e) (inr f) = rw (e, f) syntax
-between-told (Limited.Refused j) (Limited.Refused k) (inr e) (inl f) = rw (e, f) syntax
-between-told (Limited.Refused j) (Limited.Refused k) (inr e) (inr f) = rw (e, f) range
+between_told : (a b : Limited) → Passed a → Passed b → Told (between_of a b)
+unfolding between_of
+between_told (Fine a) (Fine b) h l = each Told (not (below_of a b)) (Verdict.Refused 12) (Set (Switch (Between a b))) (λ _. inr (inr refl)) (λ _. tt)
+between_told (Fine a) (Limited.Refused k) h l = any k l
+between_told (Limited.Refused j) (Fine b) h l = any j h
+between_told (Limited.Refused j) (Limited.Refused k) (inl e) (inl f) = rw (e, f) syntax
+between_told (Limited.Refused j) (Limited.Refused k) (inl e) (inr f) = rw (e, f) syntax
+between_told (Limited.Refused j) (Limited.Refused k) (inr e) (inl f) = rw (e, f) syntax
+between_told (Limited.Refused j) (Limited.Refused k) (inr e) (inr f) = rw (e, f) range
 
-transition-told : (limits : ProfileLimits) (s : List ℕ) → Told (transitionData limits s)
-unfolding transitionData endsOf transitionOf
-transition-told limits s =
+transition_told : (limits : ProfileLimits) (s : List ℕ) → Told (transition_data limits s)
+unfolding transition_data ends_of transition_of
+transition_told limits s =
     let t = drop 1 s in
-    let k = untilOf 84 t in
-    let P : Ends → Type 0 = λ (e : Ends). Told (transitionOf e) in
-    each P (starts_with 68 s) (One (limitedOf limits (number_of t))) _ (λ _. direct-told _ (limited-passed limits (number_of t)))
-    (λ _. each P (not (starts_with 70 s && limits.betweenForm)) None _ (λ _. syntax)
+    let k = until_of 84 t in
+    let P : Ends → Type 0 = λ (e : Ends). Told (transition_of e) in
+    each P (starts_with 68 s) (One (limited_of limits (number_of t))) _ (λ _. direct_told _ (limited_passed limits (number_of t)))
+    (λ _. each P (not (starts_with 70 s && limits.between_form)) None _ (λ _. syntax)
     (λ _. each P (leb (length t) k) None _ (λ _. syntax)
-    (λ _. between-told _ _ (limited-passed limits (number_of (take k t))) (limited-passed limits (number_of (drop (k + 1) t))))))
+    (λ _. between_told _ _ (limited_passed limits (number_of (take k t))) (limited_passed limits (number_of (drop (k + 1) t))))))
 
-stream-told : (s : List ℕ) (n : ℕ) → Told (streamOf s n)
-unfolding streamOf
-stream-told s n =
+stream_told : (s : List ℕ) (n : ℕ) → Told (stream_of s n)
+unfolding stream_of
+stream_told s n =
     each Told (eqb (leading s) 0) (Verdict.Refused 10) _ (λ _. syntax)
     (λ _. each Told (eqb n 10) (Verdict.Refused 10) _ (λ _. syntax)
-    (λ _. each Told (idleList s) (Verdict.Refused 10) _ (λ _. syntax)
-    (λ _. each Told (not (knownMode s)) (Verdict.Refused 11) _ (λ _. range)
+    (λ _. each Told (idle_list s) (Verdict.Refused 10) _ (λ _. syntax)
+    (λ _. each Told (not (known_mode s)) (Verdict.Refused 11) _ (λ _. range)
     (λ _. each Told (eqb n 11) (Verdict.Refused 11) _ (λ _. range)
     (λ _. each Told (eqb n 12) (Verdict.Refused 12) (Set (Stream (starts_with 52 s))) (λ _. logic) (λ _. tt))))))
 
-told : (limits : ProfileLimits) (key : Key) (s : List ℕ) → Told (verdictOf limits key s)
-unfolding verdictOf streamData
-told limits DA s = address-told s
-told limits DU s = unit-told s
-told limits C1 s = factor-told (number_of s)
-told limits CM s = digit-told Control _ (digit-read standard.controlHigh s)
-told limits CC s = digit-told Cathode _ (digit-read standard.cathodeHigh s)
-told limits FC s = digit-told Filament _ (digit-read standard.filamentHigh s)
-told limits ST s = transition-told limits s
-told limits SM s = stream-told s (entriesNumber limits.sourceCodes (drop 1 s))
+told : (limits : ProfileLimits) (key : Key) (s : List ℕ) → Told (verdict_of limits key s)
+unfolding verdict_of stream_data
+told limits DA s = address_told s
+told limits DU s = unit_told s
+told limits C1 s = factor_told (number_of s)
+told limits CM s = digit_told Control _ (digit_read standard.control_high s)
+told limits CC s = digit_told Cathode _ (digit_read standard.cathode_high s)
+told limits FC s = digit_told Filament _ (digit_read standard.filament_high s)
+told limits ST s = transition_told limits s
+told limits SM s = stream_told s (entries_number limits.source_codes (drop 1 s))
 
 -- a write's data are refused with SYNTAX, RANGE or LOGIC only
-pub refused-data : RefusedData
-refused-data limits key s k e = rw e at (told limits key s)
+pub refused_data : RefusedData
+refused_data limits key s k e = rw e at (told limits key s)
 
 -- "none with a write" is SYNTAX
-pub none-with-write : NoneWithWrite
-unfolding verdictOf addressData unitData unitText sameText factorOf number_of scanOf parsedOf unsignedOf leading starts_with digitData digitOf endsOf transitionOf transitionData streamData streamOf pick
-none-with-write limits DA = refl
-none-with-write limits DU = refl
-none-with-write limits C1 = refl
-none-with-write limits CM = refl
-none-with-write limits CC = refl
-none-with-write limits FC = refl
-none-with-write limits ST = refl
-none-with-write limits SM = refl
+pub none_with_write : NoneWithWrite
+unfolding verdict_of address_data unit_data unit_text same_text factor_of number_of scan_of parsed_of unsigned_of leading starts_with digit_data digit_of ends_of transition_of transition_data stream_data stream_of pick
+none_with_write limits DA = refl
+none_with_write limits DU = refl
+none_with_write limits C1 = refl
+none_with_write limits CM = refl
+none_with_write limits CC = refl
+none_with_write limits FC = refl
+none_with_write limits ST = refl
+none_with_write limits SM = refl

@@ -3,15 +3,15 @@ use Rattle.std.specs.Prelude.{true, false, List, [], ◌∷◌, ℕ}
 use Prim.Native.String.{String}
 use Rattle.buffer.specs.Byte.{at}
 use Rattle.buffer.specs.Quoted.{bytes}
-use Rattle.settings.specs.Limits.{positive, limitsOf}
+use Rattle.settings.specs.Limits.{positive, limits_of}
 use Rattle.sources.specs.declared.Profile.TheVariants.{Standard}
 use Rattle.settings.specs.declared.PressureUnit.TheVariants.{Torr}
 use Rattle.settings.specs.declared.Transition.TheVariants.{Between}
 use Rattle.settings.specs.declared.Key.TheVariants.{DA, DU, C1, CM, CC, FC, ST, SM}
 use Rattle.settings.specs.declared.Setting.TheVariants.{Address, PressureIn, Factor, Control, Switch, Stream}
 use Rattle.frames.specs.declared.HeadV2.{HeadV2}
-use Rattle.requests.specs.Command.{commandOf}
-use Rattle.requests.specs.AskV2.{askV2, askList}
+use Rattle.requests.specs.Command.{command_of}
+use Rattle.requests.specs.AskV2.{ask_v2, ask_list}
 use Rattle.requests.specs.declared.Command.{Command}
 use Rattle.requests.specs.declared.Command.TheVariants.{MV, T2, FN, FS, Of}
 use Rattle.requests.specs.declared.Named.{Named}
@@ -46,7 +46,7 @@ table =
     ∷ []
 
 abbrev pub named : Row → Named
-named r = commandOf (at r.text 0) (at r.text 1)
+named r = command_of (at r.text 0) (at r.text 1)
 
 abbrev pub known : Row → Named
 known r = Known r.command
@@ -66,8 +66,8 @@ v2 head text ask = record { head = bytes head; text = bytes text; ask = ask; lis
 abbrev pub stream : String → AskV2 → List ℕ → CaseV2
 stream text ask list = record { head = bytes "2SM"; text = bytes text; ask = ask; list = list }
 
-abbrev pub casesV2 : List CaseV2
-casesV2 =
+abbrev pub cases_v2 : List CaseV2
+cases_v2 =
     v2 "0MV" "" (Asks (Read MV))
     ∷ v2 "0FN" "" (Asks (Read FN))
     ∷ v2 "0CC" "" (Asks (Read (Of CC)))
@@ -116,10 +116,10 @@ pub record Given : Type 0 where
   pub ask : AskV2
   pub list : List ℕ
 
-abbrev pub askedV2 : CaseV2 → Given
-askedV2 c =
+abbrev pub asked_v2 : CaseV2 → Given
+asked_v2 c =
     let h : HeadV2 = record { address = 1; access = at c.head 0; first = at c.head 1; second = at c.head 2 } in
-    record { ask = askV2 (limitsOf Standard) h c.text; list = askList (limitsOf Standard) h c.text }
+    record { ask = ask_v2 (limits_of Standard) h c.text; list = ask_list (limits_of Standard) h c.text }
 
-abbrev pub paperV2 : CaseV2 → Given
-paperV2 c = record { ask = c.ask; list = c.list }
+abbrev pub paper_v2 : CaseV2 → Given
+paper_v2 c = record { ask = c.ask; list = c.list }

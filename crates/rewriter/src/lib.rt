@@ -2,8 +2,8 @@
 ghost use Rattle.std.specs.Prelude.{length};
 ghost use Rattle.buffer.specs.Answer.{Sent};
 ghost use Rattle.opg_request_reader.specs.Asked.{asked_of};
-ghost use Rattle.settings.specs.Limits.{limitsOf};
-ghost use Rattle.rewriter.specs.Again.{textAgain, opgAgain, Rewritten};
+ghost use Rattle.settings.specs.Limits.{limits_of};
+ghost use Rattle.rewriter.specs.Again.{text_again, opg_again, Rewritten};
 
 use opg_request_reader::Asked;
 use request_reader::Request;
@@ -14,7 +14,7 @@ fn write_text_again(
     out: &mut [u8],
     d: request_reader::Decoded,
 ) -> buffer::Written
-    ensures { Sent out.old (textAgain (limitsOf profile) (length out.old) d.request d.sources) out.new result }
+    ensures { Sent out.old (text_again (limits_of profile) (length out.old) d.request d.sources) out.new result }
 {
     let request = d.request;
     let q = d.sources;
@@ -31,14 +31,14 @@ fn write_text_again(
 // Reads any bytes as a text request to a gauge of this profile and writes the request again: 0 and the frame's length, or the number of the
 // first refusal.
 pub fn rewrite_text(profile: sources::Profile, request: &[u8], out: &mut [u8]) -> buffer::Written
-    ensures { Rewritten (limitsOf profile) request.now out.old out.new result }
+    ensures { Rewritten (limits_of profile) request.now out.old out.new result }
 {
     write_text_again(profile, out, request_reader::read_request(profile, request))
 }
 
 // Writes an OPG request that was read, or hands on the refusal.
 fn write_opg_again(out: &mut [u8], asked: Asked) -> buffer::Written
-    ensures { Sent out.old (opgAgain (length out.old) asked) out.new result }
+    ensures { Sent out.old (opg_again (length out.old) asked) out.new result }
 {
     match asked {
         Asked::Silent(k) => buffer::Written {
@@ -55,7 +55,7 @@ fn write_opg_again(out: &mut [u8], asked: Asked) -> buffer::Written
 
 // Reads any bytes as an OPG request and writes the request again: 20 and the frame's length, or the number of the first refusal.
 pub fn rewrite_opg(request: &[u8], out: &mut [u8]) -> buffer::Written
-    ensures { Sent out.old (opgAgain (length out.old) (asked_of request.now)) out.new result }
+    ensures { Sent out.old (opg_again (length out.old) (asked_of request.now)) out.new result }
 {
     write_opg_again(out, opg_request_reader::read_request(request))
 }

@@ -9,7 +9,7 @@ use lib.Dec.{eqb}
 use lib.ListN.{length, drop, length-drop}
 use Rattle.buffer.specs.Byte.{at, pair_at, word_at}
 use Rattle.buffer.specs.First.{pick}
-use Rattle.script.specs.Script.{requestOf, exactAt, call_of, call_at, Fits}
+use Rattle.script.specs.Script.{request_of, exact_at, call_of, call_at, Fits}
 use Rattle.script.specs.declared.To.{To}
 use Rattle.script.specs.declared.Call.{Call}
 use Rattle.script.specs.declared.Call.TheVariants.{Request, Line, SetBench, SetOpgBench, End}
@@ -17,18 +17,18 @@ use Rattle.script.specs.declared.Call.TheVariants.{Request, Line, SetBench, SetO
 -- ---- numbers
 
 -- a value with these digits
-pub value-with : (s : List ℕ) (n : ℕ) → n ≡ word_at s 4 → record { negative = not (eqb (at s 3) 0); digits = n; up = at s 8; down = at s 9 } ≡ exactAt s
-unfolding exactAt
-value-with s n e = ap (λ (k : ℕ). record { negative = not (eqb (at s 3) 0); digits = k; up = at s 8; down = at s 9 }) e
+pub value_with : (s : List ℕ) (n : ℕ) → n ≡ word_at s 4 → record { negative = not (eqb (at s 3) 0); digits = n; up = at s 8; down = at s 9 } ≡ exact_at s
+unfolding exact_at
+value_with s n e = ap (λ (k : ℕ). record { negative = not (eqb (at s 3) 0); digits = k; up = at s 8; down = at s 9 }) e
 
 -- a request with these numbers, and one that ends before its bytes do
-pub request-with : (to : To) (s : List ℕ) (room len : ℕ) → room ≡ pair_at s 1 → len ≡ pair_at s 3 → 5 ≤ length s → len ≤ length s - 5 → Request to room len ≡ requestOf to s
-unfolding requestOf pick
-request-with to s room len p q h k = rw (le-ltb (length s) 5 h, ← q, le-ltb (length s - 5) len k, ← p)
+pub request_with : (to : To) (s : List ℕ) (room len : ℕ) → room ≡ pair_at s 1 → len ≡ pair_at s 3 → 5 ≤ length s → len ≤ length s - 5 → Request to room len ≡ request_of to s
+unfolding request_of pick
+request_with to s room len p q h k = rw (le-ltb (length s) 5 h, ← q, le-ltb (length s - 5) len k, ← p)
 
-pub request-short : (to : To) (s : List ℕ) (len : ℕ) → len ≡ pair_at s 3 → 5 ≤ length s → length s - 5 < len → End ≡ requestOf to s
-unfolding requestOf pick
-request-short to s len q h k = rw (le-ltb (length s) 5 h, ← q, lt-ltb (length s - 5) len k)
+pub request_short : (to : To) (s : List ℕ) (len : ℕ) → len ≡ pair_at s 3 → 5 ≤ length s → length s - 5 < len → End ≡ request_of to s
+unfolding request_of pick
+request_short to s len q h k = rw (le-ltb (length s) 5 h, ← q, lt-ltb (length s - 5) len k)
 
 -- ---- places
 
@@ -43,6 +43,6 @@ shift script s at (SetOpgBench p) e f = ends script s at 6 e (omega arith) f
 shift script s at End e f = tt
 
 -- the call at the front of what is left is the one at this place
-pub call-there : (script s : List ℕ) (at : ℕ) {r : Call} → s ≡ drop at script → (r ≡ call_of s) × Fits (length s) 0 r
+pub call_there : (script s : List ℕ) (at : ℕ) {r : Call} → s ≡ drop at script → (r ≡ call_of s) × Fits (length s) 0 r
     → (r ≡ call_at script at) × Fits (length script) at r
-call-there script s at {r} e q = (q.0 ∙ ap call_of e, shift script s at r e q.1)
+call_there script s at {r} e q = (q.0 ∙ ap call_of e, shift script s at r e q.1)

@@ -2,8 +2,8 @@
 use Rattle.std.specs.Prelude.{List, [], ◌∷◌, ℕ, ◌/◌, ◌%◌}
 
 -- a number as two bytes, and as four
-abbrev pub pairBytes : ℕ → List ℕ
-pairBytes n = n / 256 ∷ n % 256 ∷ []
+abbrev pub pair_bytes : ℕ → List ℕ
+pair_bytes n = n / 256 ∷ n % 256 ∷ []
 
 abbrev pub word_bytes : ℕ → List ℕ
 word_bytes n = n / 16777216 ∷ n / 65536 % 256 ∷ n / 256 % 256 ∷ n % 256 ∷ []

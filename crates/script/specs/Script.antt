@@ -11,8 +11,8 @@ use Rattle.script.specs.declared.Call.{Call}
 use Rattle.script.specs.declared.Call.TheVariants.{Request, Line, SetBench, SetOpgBench, End}
 
 -- a request: 0 or 3, how many bytes are lent, how many bytes it has, and its bytes
-unfoldable pub requestOf : To → List ℕ → Call
-requestOf to s = first (ltb (length s) 5 ⇒ End ∷ ltb (length s - 5) (pair_at s 3) ⇒ End ∷ []) (Request to (pair_at s 1) (pair_at s 3))
+unfoldable pub request_of : To → List ℕ → Call
+request_of to s = first (ltb (length s) 5 ⇒ End ∷ ltb (length s - 5) (pair_at s 3) ⇒ End ∷ []) (Request to (pair_at s 1) (pair_at s 3))
 
 -- the stream line: 1, and how many bytes are lent
 unfoldable pub line_of : List ℕ → Call
@@ -20,14 +20,14 @@ line_of s = first (ltb (length s) 3 ⇒ End ∷ []) (Line (pair_at s 1))
 
 -- a bench setting of the text gauge: 2, which, the source's code or the status, the sign, four bytes of digits, how many places up and how many
 -- down
-unfoldable pub exactAt : List ℕ → Exact
-exactAt s = record { negative = not (eqb (at s 3) 0); digits = word_at s 4; up = at s 8; down = at s 9 }
+unfoldable pub exact_at : List ℕ → Exact
+exact_at s = record { negative = not (eqb (at s 3) 0); digits = word_at s 4; up = at s 8; down = at s 9 }
 
 unfoldable pub setting_of : List ℕ → Call
 setting_of s =
     first
     (ltb (length s) 10 ⇒ End
-    ∷ eqb (at s 1) 0 ⇒ SetBench (Reads (at s 2) (exactAt s))
+    ∷ eqb (at s 1) 0 ⇒ SetBench (Reads (at s 2) (exact_at s))
     ∷ eqb (at s 1) 1 ⇒ SetBench (UnderRange (at s 2))
     ∷ eqb (at s 1) 2 ⇒ SetBench (OverRange (at s 2))
     ∷ eqb (at s 1) 3 ⇒ SetBench (Faulty (at s 2))
@@ -36,8 +36,8 @@ setting_of s =
     End
 
 -- a bench setting of the OPG: 4, which, and four bytes: the pressure's bits, or, where it is unavailable, anything
-unfoldable pub pressureOf : List ℕ → Call
-pressureOf s =
+unfoldable pub pressure_of : List ℕ → Call
+pressure_of s =
     first
     (ltb (length s) 6 ⇒ End
     ∷ eqb (at s 1) 0 ⇒ SetOpgBench (Bits (word_at s 2))
@@ -50,11 +50,11 @@ unfoldable pub call_of : List ℕ → Call
 call_of s =
     first
     (ltb (length s) 1 ⇒ End
-    ∷ eqb (at s 0) 0 ⇒ requestOf Text s
+    ∷ eqb (at s 0) 0 ⇒ request_of Text s
     ∷ eqb (at s 0) 1 ⇒ line_of s
     ∷ eqb (at s 0) 2 ⇒ setting_of s
-    ∷ eqb (at s 0) 3 ⇒ requestOf Opg s
-    ∷ eqb (at s 0) 4 ⇒ pressureOf s
+    ∷ eqb (at s 0) 3 ⇒ request_of Opg s
+    ∷ eqb (at s 0) 4 ⇒ pressure_of s
     ∷ [])
     End
 
@@ -63,12 +63,12 @@ abbrev pub call_at : List ℕ → ℕ → Call
 call_at script at = call_of (drop at script)
 
 -- how many bytes of memory a call asks for
-abbrev pub roomOf : Call → ℕ
-roomOf (Request to room len) = room
-roomOf (Line room) = room
-roomOf (SetBench b) = 0
-roomOf (SetOpgBench p) = 0
-roomOf End = 0
+abbrev pub room_of : Call → ℕ
+room_of (Request to room len) = room
+room_of (Line room) = room
+room_of (SetBench b) = 0
+room_of (SetOpgBench p) = 0
+room_of End = 0
 
 -- a call that was read at place `at` of n bytes ends within them, and its room is a 16-bit number
 abbrev pub Fits : ℕ → ℕ → Call → Type 0

@@ -10,7 +10,7 @@
 // Anything else is no call.
 ghost use Rattle.std.specs.Prelude.{◌≡◌, ◌<◌, ◌≤◌, length};
 ghost use Rattle.buffer.specs.Byte.{pair_of};
-ghost use Rattle.script.specs.Script.{requestOf, line_of, exactAt, setting_of, pressureOf, call_of, call_at, Fits};
+ghost use Rattle.script.specs.Script.{request_of, line_of, exact_at, setting_of, pressure_of, call_of, call_at, Fits};
 
 // The gauge that a request is for.
 #[derive(Drop)]
@@ -41,7 +41,7 @@ fn pair(high: u8, low: u8) -> usize
 }
 
 fn request_of(to: To, s: &[u8]) -> Call
-    ensures value { result ≡ requestOf to s.now }
+    ensures value { result ≡ request_of to s.now }
     ensures fits { Fits (length s.now) 0 result }
 {
     if s.len() < 5 {
@@ -67,7 +67,7 @@ fn line_of(s: &[u8]) -> Call
 
 fn value_of(s: &[u8]) -> decimal::Exact
     requires { 10 ≤ length s.now }
-    ensures { result ≡ exactAt s.now }
+    ensures { result ≡ exact_at s.now }
 {
     decimal::Exact {
         negative: s[3] != 0,
@@ -105,7 +105,7 @@ fn setting_of(s: &[u8]) -> Call
 }
 
 fn pressure_of(s: &[u8]) -> Call
-    ensures value { result ≡ pressureOf s.now }
+    ensures value { result ≡ pressure_of s.now }
     ensures fits { Fits (length s.now) 0 result }
 {
     if s.len() < 6 {

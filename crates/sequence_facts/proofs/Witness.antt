@@ -5,46 +5,46 @@ use Prim.Native.Nat.{ℕ, ◌≤◌}
 use native.Mathlib.Omega.{arith}
 use lib.ListN.{length, replicate}
 use lib.Seq.{take-take, take-append_seam}
-use Rattle.forms_facts.proofs.Lemmas.Lists.{at-most-entries}
+use Rattle.forms_facts.proofs.Lemmas.Lists.{at_most_entries}
 use Rattle.sources.specs.Source.{capacity, list_of}
 use Rattle.sources.specs.declared.Profile.{Profile}
 use Rattle.sources.specs.declared.Profile.TheVariants.{Standard, Vsh, Vsm}
-use Rattle.settings.specs.Limits.{ProfileLimits, limitsOf}
+use Rattle.settings.specs.Limits.{ProfileLimits, limits_of}
 use Rattle.settings.specs.Settings.{held}
-use Rattle.readings.specs.Bench.{benchNumber}
-use Rattle.line.specs.Line.{lineAnswer}
+use Rattle.readings.specs.Bench.{bench_number}
+use Rattle.line.specs.Line.{line_answer}
 use Rattle.gauge_table.specs.After.{answer_of as tableAnswer, next_of, benched}
 use Rattle.buffer.specs.Answer.{Answer, over, Sent}
 use Rattle.buffer.specs.declared.Written.{Written}
 use Rattle.gauge_rules.specs.State.{State, state_of, settled}
-use Rattle.gauge_rules.specs.BenchIn.{benchIn}
+use Rattle.gauge_rules.specs.BenchIn.{bench_in}
 use Rattle.text_gauge.specs.Answer.{Answers, Benches}
 use Rattle.text_gauge.specs.declared.Answered.{Answered}
 use Rattle.text_gauge.specs.declared.BenchAnswer.{BenchAnswer}
 use Rattle.gauge_facts.specs.Sound.{SoundState}
-use Rattle.gauge_facts.proofs.Profile.{profile-stays}
-use Rattle.gauge_facts.proofs.Kept.{fresh-sound, next-sound, bench-sound}
-use Rattle.sequence_facts.specs.Model.{step, modelOf}
-use Rattle.sequence_facts.specs.Sequence.{asked, benchSet, lined, History, model, Trace, begin, ask, setBench, show, AllFixed}
-use Rattle.sequence_facts.specs.Shown.{count_of, valuesIn}
-use Rattle.sequence_facts.specs.Witness.{sourcesOf, gaugeOf, Call, asks, tells, shows, call_of, exchange, play, longest}
+use Rattle.gauge_facts.proofs.Profile.{profile_stays}
+use Rattle.gauge_facts.proofs.Kept.{fresh_sound, next_sound, bench_sound}
+use Rattle.sequence_facts.specs.Model.{step, model_of}
+use Rattle.sequence_facts.specs.Sequence.{asked, bench_set, lined, History, model, Trace, begin, ask, set_bench, show, AllFixed}
+use Rattle.sequence_facts.specs.Shown.{count_of, values_in}
+use Rattle.sequence_facts.specs.Witness.{sources_of, gauge_of, Call, asks, tells, shows, call_of, exchange, play, longest}
 use Rattle.sequence_facts.specs.Theorems.{Plays, Played, Only, LongestReached}
 use Rattle.sequence_facts.proofs.Claimed.{claimed}
-use Rattle.line.proofs.Open.{line-open}
-use Rattle.gauge_table.proofs.Open.{gauge-table-open}
+use Rattle.line.proofs.Open.{line_open}
+use Rattle.gauge_table.proofs.Open.{gauge_table_open}
 
-list_back : (list : List ℕ) → length list ≤ capacity → list_of (sourcesOf list) ≡ list
+list_back : (list : List ℕ) → length list ≤ capacity → list_of (sources_of list) ≡ list
 unfolding list_of
 list_back list h = take-take (length list) capacity (list ++ replicate capacity 0) h ∙ take-append_seam list (replicate capacity 0)
 
-pub holds-back : (p : Profile) (m : State) → SoundState m → m.limits ≡ limitsOf p → state_of (gaugeOf p m) ≡ m
-holds-back p m f e =
+pub holds_back : (p : Profile) (m : State) → SoundState m → m.limits ≡ limits_of p → state_of (gauge_of p m) ≡ m
+holds_back p m f e =
     ap
-    (λ (l : ProfileLimits). record { limits = l; settings = held (gaugeOf p m).settings; readings = m.readings; unlocked = m.unlocked })
+    (λ (l : ProfileLimits). record { limits = l; settings = held (gauge_of p m).settings; readings = m.readings; unlocked = m.unlocked })
     (sym e)
     ∙ ap
     (λ (list : List ℕ). settled m (record { address = m.settings.address; unit = m.settings.unit; factor = m.settings.factor; control = m.settings.control; cathode = m.settings.cathode; filament = m.settings.filament; transition = m.settings.transition; streaming = m.settings.streaming; list = list }))
-    (list_back m.settings.list (omega (arith, at-most-entries m.limits f.proper m.settings.list f.settings.list, f.proper.few)))
+    (list_back m.settings.list (omega (arith, at_most_entries m.limits f.proper m.settings.list f.settings.list, f.proper.few)))
 
 -- the answer that the rules fix
 abbrev written : Answer → Written
@@ -60,49 +60,49 @@ plays limits (shows before ∷ cs) = ap (λ (rest : List Call). shows before ∷
 
 module _ (p : Profile) where
   abbrev limits : ProfileLimits
-  limits = limitsOf p
+  limits = limits_of p
 
-  play-sound : (cs : List Call) → SoundState (model limits (play limits cs))
-  unfolding play modelOf step
-  play-sound [] = fresh-sound p
-  play-sound (asks s before ∷ cs) = next-sound (model limits (play limits cs)) (length before) s (play-sound cs)
-  play-sound (tells b ∷ cs) = bench-sound (model limits (play limits cs)) b (play-sound cs)
-  play-sound (shows before ∷ cs) = play-sound cs
+  play_sound : (cs : List Call) → SoundState (model limits (play limits cs))
+  unfolding play model_of step
+  play_sound [] = fresh_sound p
+  play_sound (asks s before ∷ cs) = next_sound (model limits (play limits cs)) (length before) s (play_sound cs)
+  play_sound (tells b ∷ cs) = bench_sound (model limits (play limits cs)) b (play_sound cs)
+  play_sound (shows before ∷ cs) = play_sound cs
 
-  play-limits : (cs : List Call) → (model limits (play limits cs)).limits ≡ limits
-  unfolding play modelOf step
-  play-limits [] = refl
-  play-limits (asks s before ∷ cs) = profile-stays.0 (model limits (play limits cs)) (length before) s ∙ play-limits cs
-  play-limits (tells b ∷ cs) = profile-stays.1 (model limits (play limits cs)) b ∙ play-limits cs
-  play-limits (shows before ∷ cs) = play-limits cs
+  play_limits : (cs : List Call) → (model limits (play limits cs)).limits ≡ limits
+  unfolding play model_of step
+  play_limits [] = refl
+  play_limits (asks s before ∷ cs) = profile_stays.0 (model limits (play limits cs)) (length before) s ∙ play_limits cs
+  play_limits (tells b ∷ cs) = profile_stays.1 (model limits (play limits cs)) b ∙ play_limits cs
+  play_limits (shows before ∷ cs) = play_limits cs
 
-  back : (cs : List Call) → state_of (gaugeOf p (model limits (play limits cs))) ≡ model limits (play limits cs)
-  back cs = holds-back p (model limits (play limits cs)) (play-sound cs) (play-limits cs)
+  back : (cs : List Call) → state_of (gauge_of p (model limits (play limits cs))) ≡ model limits (play limits cs)
+  back cs = holds_back p (model limits (play limits cs)) (play_sound cs) (play_limits cs)
 
   -- and it is had by a gauge
-  had : (cs : List Call) → Trace limits (play limits cs) (gaugeOf p (model limits (play limits cs)))
-  unfolding play modelOf step
+  had : (cs : List Call) → Trace limits (play limits cs) (gauge_of p (model limits (play limits cs)))
+  unfolding play model_of step
   had [] = begin (back [])
   had (asks s before ∷ cs) =
       let m = model limits (play limits cs) in
       let n = next_of m (length before) s in
       let a = tableAnswer m (length before) s in
-      let r : Answered = record { gauge = gaugeOf p n; written = written a } in
+      let r : Answered = record { gauge = gauge_of p n; written = written a } in
       ask {r = r} (had cs)
       (subst (λ (x : State). Answers x s before (over a.reply before) r) (sym (back cs))
       (record { sent = record { number = refl; len = refl; memory = refl }; state = back (asks s before ∷ cs) }))
   had (tells b ∷ cs) =
       let m = model limits (play limits cs) in
-      let n = benched m (benchIn m.limits b) in
-      let r : BenchAnswer = record { gauge = gaugeOf p n; number = benchNumber (benchIn m.limits b) } in
-      setBench {r = r} (had cs)
+      let n = benched m (bench_in m.limits b) in
+      let r : BenchAnswer = record { gauge = gauge_of p n; number = bench_number (bench_in m.limits b) } in
+      set_bench {r = r} (had cs)
       (subst (λ (x : State). Benches x b r) (sym (back cs))
       (record { number = refl; state = back (tells b ∷ cs) }))
   had (shows before ∷ cs) =
       let m = model limits (play limits cs) in
-      let a = lineAnswer m.limits (length before) m.settings m.readings in
+      let a = line_answer m.limits (length before) m.settings m.readings in
       show {w = written a} (had cs)
-      (subst (λ (x : State). Sent before (lineAnswer x.limits (length before) x.settings x.readings) (over a.reply before) (written a)) (sym (back cs))
+      (subst (λ (x : State). Sent before (line_answer x.limits (length before) x.settings x.readings) (over a.reply before) (written a)) (sym (back cs))
       (record { number = refl; len = refl; memory = refl }))
 
 pub played : Played
@@ -117,14 +117,14 @@ only limits ok h g t = go h (claimed limits ok h g t).answers
     go [] f = refl
     go (asked s before n len after ∷ h) (f, fs) =
         rw (f.0.number, f.0.len, f.0.memory) (ap (λ (x : History). exchange (model limits x) (asks s before) ∷ x) (go h fs))
-    go (benchSet b n ∷ h) (f, fs) = rw f (ap (λ (x : History). exchange (model limits x) (tells b) ∷ x) (go h fs))
+    go (bench_set b n ∷ h) (f, fs) = rw f (ap (λ (x : History). exchange (model limits x) (tells b) ∷ x) (go h fs))
     go (lined before n len after ∷ h) (f, fs) =
         rw (f.0.number, f.0.len, f.0.memory) (ap (λ (x : History). exchange (model limits x) (shows before) ∷ x) (go h fs))
 
 -- ---- the longest line
 
 pub reached : LongestReached
-unfolding line-open gauge-table-open play modelOf step count_of valuesIn
-reached Standard = record { trace = played Standard (longest Standard); calls_are = plays (limitsOf Standard) (longest Standard); values = refl; line-is = refl; line-bytes = refl }
-reached Vsh = record { trace = played Vsh (longest Vsh); calls_are = plays (limitsOf Vsh) (longest Vsh); values = refl; line-is = refl; line-bytes = refl }
-reached Vsm = record { trace = played Vsm (longest Vsm); calls_are = plays (limitsOf Vsm) (longest Vsm); values = refl; line-is = refl; line-bytes = refl }
+unfolding line_open gauge_table_open play model_of step count_of values_in
+reached Standard = record { trace = played Standard (longest Standard); calls_are = plays (limits_of Standard) (longest Standard); values = refl; line_is = refl; line_bytes = refl }
+reached Vsh = record { trace = played Vsh (longest Vsh); calls_are = plays (limits_of Vsh) (longest Vsh); values = refl; line_is = refl; line_bytes = refl }
+reached Vsm = record { trace = played Vsm (longest Vsm); calls_are = plays (limits_of Vsm) (longest Vsm); values = refl; line_is = refl; line_bytes = refl }

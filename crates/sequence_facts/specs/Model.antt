@@ -4,7 +4,7 @@ use Rattle.std.specs.Prelude.{List, [], ◌∷◌, ℕ}
 use Rattle.settings.specs.Limits.{ProfileLimits}
 use Rattle.readings.specs.declared.Bench.{Bench}
 use Rattle.gauge_rules.specs.State.{State, fresh}
-use Rattle.gauge_rules.specs.BenchIn.{benchIn}
+use Rattle.gauge_rules.specs.BenchIn.{bench_in}
 use Rattle.gauge_table.specs.After.{next_of, benched}
 
 -- what it is fed: a request's bytes and how many bytes are lent with it; a bench setting; a request for the stream line
@@ -17,10 +17,10 @@ pub data Fed : Type 0 where
 -- sets; the V1 rule moves the unlock; all else stays."
 unfoldable pub step : State → Fed → State
 step m (request s lent) = next_of m lent s
-step m (bench b) = benched m (benchIn m.limits b)
+step m (bench b) = benched m (bench_in m.limits b)
 step m (line lent) = m
 
 -- what the book of a gauge with these limits holds after these, the latest first
-unfoldable pub modelOf : ProfileLimits → List Fed → State
-modelOf limits [] = fresh limits
-modelOf limits (f ∷ fs) = step (modelOf limits fs) f
+unfoldable pub model_of : ProfileLimits → List Fed → State
+model_of limits [] = fresh limits
+model_of limits (f ∷ fs) = step (model_of limits fs) f

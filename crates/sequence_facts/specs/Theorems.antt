@@ -1,11 +1,11 @@
 -- What is proved here, each statement as a type; proofs/ has the proofs.
 use Rattle.std.specs.Prelude.{◌≡◌, List, map}
 use Rattle.sources.specs.declared.Profile.{Profile}
-use Rattle.settings.specs.Limits.{ProfileLimits, limitsOf}
+use Rattle.settings.specs.Limits.{ProfileLimits, limits_of}
 use Rattle.forms_facts.specs.Sound.{Proper}
 use Rattle.gauge_rules.specs.declared.Gauge.{Gauge}
 use Rattle.sequence_facts.specs.Sequence.{History, model, Trace, Claim, OfProfile}
-use Rattle.sequence_facts.specs.Witness.{gaugeOf, Call, call_of, play, longest, Reached}
+use Rattle.sequence_facts.specs.Witness.{gauge_of, Call, call_of, play, longest, Reached}
 
 -- THE THEOREM. "Demand 3 is a single claim about the whole sequence, not one for each call.": it holds of every sequence of calls from factory
 -- settings, "once over a profile's limits and list of sources"
@@ -14,11 +14,11 @@ Claimed = (limits : ProfileLimits) → Proper limits → (h : History) (g : Gaug
 
 -- and so of each of the three profiles: the gauge stays of its profile, and its line within the profile's numbers
 abbrev pub ClaimedOf : Type 0
-ClaimedOf = (p : Profile) (h : History) (g : Gauge) → Trace (limitsOf p) h g → Claim (limitsOf p) h g × OfProfile p g
+ClaimedOf = (p : Profile) (h : History) (g : Gauge) → Trace (limits_of p) h g → Claim (limits_of p) h g × OfProfile p g
 
 -- the claim is about something: any list of calls, answered by the rules, is had by a gauge of each profile
 abbrev pub Played : Type 0
-Played = (p : Profile) (cs : List Call) → Trace (limitsOf p) (play (limitsOf p) cs) (gaugeOf p (model (limitsOf p) (play (limitsOf p) cs)))
+Played = (p : Profile) (cs : List Call) → Trace (limits_of p) (play (limits_of p) cs) (gauge_of p (model (limits_of p) (play (limits_of p) cs)))
 
 -- it has these calls
 abbrev pub Plays : Type 0

@@ -6,16 +6,16 @@ use native.Mathlib.Nat.{add-sub_cancel_left}
 use native.Mathlib.Omega.{arith}
 use lib.ListN.{length, take, drop, length-take, length-drop, drop_of_length-le}
 use Rattle.buffer.specs.Answer.{over, Stored}
-use Rattle.buffer.proofs.Laws.{part-middle, whole, front}
-use Rattle.service.specs.Served.{mostKept, keptOf, Keeps}
+use Rattle.buffer.proofs.Laws.{part_middle, whole, front}
+use Rattle.service.specs.Served.{most_kept, kept_of, Keeps}
 
 -- how many bytes are kept
 abbrev pub count_of : List ℕ → ℕ → ℕ → ℕ
-count_of memory from to = min (min to (length memory) - from) mostKept
+count_of memory from to = min (min to (length memory) - from) most_kept
 
-kept-length : (memory : List ℕ) (from to : ℕ) → length (keptOf memory from to) ≡ count_of memory from to
-unfolding keptOf
-kept-length memory from to = simp (length-take, length-drop) (omega arith)
+kept_length : (memory : List ℕ) (from to : ℕ) → length (kept_of memory from to) ≡ count_of memory from to
+unfolding kept_of
+kept_length memory from to = simp (length-take, length-drop) (omega arith)
 
 -- as many as a part of a part has, taken from the whole, is that part
 take_twice : (m n : ℕ) (l : List ℕ) → take (length (take m (take n l))) l ≡ take m (take n l)
@@ -25,23 +25,23 @@ take_twice (suc m) (suc n) [] = refl
 take_twice (suc m) (suc n) (x ∷ l) = ap (λ (r : List ℕ). x ∷ r) (take_twice m n l)
 
 -- the bytes kept are so many from `from` on
-kept-is : (memory : List ℕ) (from to : ℕ) → take (count_of memory from to) (drop from memory) ≡ keptOf memory from to
-unfolding keptOf
-kept-is memory from to = rw (← (kept-length memory from to), ← (part-middle from to memory)) (take_twice mostKept (to - from) (drop from memory))
+kept_is : (memory : List ℕ) (from to : ℕ) → take (count_of memory from to) (drop from memory) ≡ kept_of memory from to
+unfolding kept_of
+kept_is memory from to = rw (← (kept_length memory from to), ← (part_middle from to memory)) (take_twice most_kept (to - from) (drop from memory))
 
 -- where `to` is not past `from`, or `from` is past the end, none are
 pub none_kept : (memory : List ℕ) (from to : ℕ) → min to (length memory) ≤ from → Keeps memory from to memory 0
-unfolding over keptOf
+unfolding over kept_of
 none_kept memory from to h = record { len = rw e; memory = rw e }
   where
-    e : keptOf memory from to ≡ []
-    e = ap (take mostKept) (drop_of_length-le (take to memory) {i = from} (simp length-take h))
+    e : kept_of memory from to ≡ []
+    e = ap (take most_kept) (drop_of_length-le (take to memory) {i = from} (simp length-take h))
 
 -- two stores by way of other memory move them
-pub moved : (memory room held memory' : List ℕ) (from to n : ℕ) → n ≡ count_of memory from to → length room ≡ mostKept
+pub moved : (memory room held memory' : List ℕ) (from to n : ℕ) → n ≡ count_of memory from to → length room ≡ most_kept
     → Stored room 0 (take (from + n - from) (drop from memory)) held → Stored memory 0 (take n held) memory' → Keeps memory from to memory' n
 moved memory room held memory' from to n e l f g =
-    let part : take (from + n - from) (drop from memory) ≡ keptOf memory from to = rw (add-sub_cancel_left, e) (kept-is memory from to) in
-    let size : n ≡ length (keptOf memory from to) = e ∙ sym (kept-length memory from to) in
-    let kept : take n held ≡ keptOf memory from to = front n (rw part at f) size (omega arith) in
+    let part : take (from + n - from) (drop from memory) ≡ kept_of memory from to = rw (add-sub_cancel_left, e) (kept_is memory from to) in
+    let size : n ≡ length (kept_of memory from to) = e ∙ sym (kept_length memory from to) in
+    let kept : take n held ≡ kept_of memory from to = front n (rw part at f) size (omega arith) in
     record { len = size; memory = whole (rw kept at g) (omega arith) }

@@ -3,9 +3,9 @@ use Rattle.std.specs.Prelude.{◌≡◌, List, [], ◌∷◌, ◌++◌, ℕ, ◌
 use Rattle.buffer.specs.First.{◌⇒◌, first}
 use Rattle.buffer.specs.Answer.{over}
 use Rattle.gauge_rules.specs.State.{State, state_of}
-use Rattle.gauge_table.specs.Table.{answerRoom}
+use Rattle.gauge_table.specs.Table.{answer_room}
 use Rattle.gauge_table.specs.After.{answer_of, next_of}
-use Rattle.service.specs.Split.{framesOf}
+use Rattle.service.specs.Split.{frames_of}
 use Rattle.service.specs.declared.Served.{Served}
 
 -- frames that were answered: the state afterwards, how many bytes they have, and their replies one after another
@@ -23,28 +23,28 @@ then n reply s = record { state = s.state; taken = n + s.taken; replies = reply 
 
 -- The frames answered in order, each in the state that the last one left and with the memory that the replies before it left. It stops before
 -- a frame for which less is left than an answer asks for.
-unfoldable pub serviceOf : State → ℕ → List (List ℕ) → Service
-serviceOf g room [] = nothing g
-serviceOf g room (f ∷ fs) =
+unfoldable pub service_of : State → ℕ → List (List ℕ) → Service
+service_of g room [] = nothing g
+service_of g room (f ∷ fs) =
     let reply = (answer_of g room f).reply in
-    first (ltb room answerRoom ⇒ nothing g ∷ []) (then (length f) reply (serviceOf (next_of g room f) (room - length reply) fs))
+    first (ltb room answer_room ⇒ nothing g ∷ []) (then (length f) reply (service_of (next_of g room f) (room - length reply) fs))
 
 -- a gauge g, given these bytes and lent the memory `before`, served r and left the memory `after`
 pub record Serves (g : State) (input before after : List ℕ) (r : Served) : Type 0 where
-  pub state : state_of r.gauge ≡ (serviceOf g (length before) (framesOf input)).state
-  pub taken : r.taken ≡ (serviceOf g (length before) (framesOf input)).taken
-  pub len : r.len ≡ length (serviceOf g (length before) (framesOf input)).replies
-  pub memory : after ≡ over (serviceOf g (length before) (framesOf input)).replies before
+  pub state : state_of r.gauge ≡ (service_of g (length before) (frames_of input)).state
+  pub taken : r.taken ≡ (service_of g (length before) (frames_of input)).taken
+  pub len : r.len ≡ length (service_of g (length before) (frames_of input)).replies
+  pub memory : after ≡ over (service_of g (length before) (frames_of input)).replies before
 
 -- how many bytes of an unfinished end are kept: with these and a CR a request has over 109 bytes, whatever comes between
-abbrev pub mostKept : ℕ
-mostKept = 110
+abbrev pub most_kept : ℕ
+most_kept = 110
 
 -- the bytes of the memory from `from` up to `to`, at most the first 110 of them; none where `to` is not past `from`
-unfoldable pub keptOf : List ℕ → ℕ → ℕ → List ℕ
-keptOf memory from to = take mostKept (drop from (take to memory))
+unfoldable pub kept_of : List ℕ → ℕ → ℕ → List ℕ
+kept_of memory from to = take most_kept (drop from (take to memory))
 
 -- they were moved to the front, and the rest of the memory is as it was
 pub record Keeps (before : List ℕ) (from to : ℕ) (after : List ℕ) (r : ℕ) : Type 0 where
-  pub len : r ≡ length (keptOf before from to)
-  pub memory : after ≡ over (keptOf before from to) before
+  pub len : r ≡ length (kept_of before from to)
+  pub memory : after ≡ over (kept_of before from to) before

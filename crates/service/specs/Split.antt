@@ -7,20 +7,20 @@ pub record Split : Type 0 where
   pub unfinished : List ℕ
 
 -- a CR before bytes that are split: a frame of its own
-abbrev pub endedBy : ℕ → Split → Split
-endedBy b s = record { frames = (b ∷ []) ∷ s.frames; unfinished = s.unfinished }
+abbrev pub ended_by : ℕ → Split → Split
+ended_by b s = record { frames = (b ∷ []) ∷ s.frames; unfinished = s.unfinished }
 
 -- any other byte before them belongs to the first frame, and to the unfinished end where there is no frame
-unfoldable pub joinedTo : ℕ → List (List ℕ) → List ℕ → Split
-joinedTo b [] end = record { frames = []; unfinished = b ∷ end }
-joinedTo b (f ∷ fs) end = record { frames = (b ∷ f) ∷ fs; unfinished = end }
+unfoldable pub joined_to : ℕ → List (List ℕ) → List ℕ → Split
+joined_to b [] end = record { frames = []; unfinished = b ∷ end }
+joined_to b (f ∷ fs) end = record { frames = (b ∷ f) ∷ fs; unfinished = end }
 
 unfoldable pub split : List ℕ → Split
 split [] = record { frames = []; unfinished = [] }
-split (b ∷ s) = cond (eqb b 13) (endedBy b (split s)) (joinedTo b (split s).frames (split s).unfinished)
+split (b ∷ s) = cond (eqb b 13) (ended_by b (split s)) (joined_to b (split s).frames (split s).unfinished)
 
-abbrev pub framesOf : List ℕ → List (List ℕ)
-framesOf s = (split s).frames
+abbrev pub frames_of : List ℕ → List (List ℕ)
+frames_of s = (split s).frames
 
-abbrev pub unfinishedOf : List ℕ → List ℕ
-unfinishedOf s = (split s).unfinished
+abbrev pub unfinished_of : List ℕ → List ℕ
+unfinished_of s = (split s).unfinished

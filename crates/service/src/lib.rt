@@ -3,7 +3,7 @@
 ghost use Rattle.std.specs.Prelude.{◌≡◌, ◌≤◌, min, length};
 ghost use Rattle.sources.specs.Source.{Counted};
 ghost use Rattle.gauge_rules.specs.State.{state_of};
-ghost use Rattle.service.specs.Served.{mostKept, Serves, Keeps};
+ghost use Rattle.service.specs.Served.{most_kept, Serves, Keeps};
 
 // The gauge after the requests, how many bytes they have, and how many bytes their replies have.
 #[derive(Drop)]
@@ -96,7 +96,7 @@ fn least(a: usize, b: usize) -> usize
 // its end. Where `to` is not past `from`, nothing moves.
 pub fn keep(buf: &mut [u8], from: usize, to: usize) -> usize
     ensures keeps { Keeps buf.old from to buf.new result }
-    ensures upper_bound { result ≤ mostKept }
+    ensures upper_bound { result ≤ most_kept }
 {
     let end = least(to, buf.len());
     if end <= from {

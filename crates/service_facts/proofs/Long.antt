@@ -8,34 +8,34 @@ use lib.Dec.{ltb}
 use lib.ListN.{length}
 use Rattle.buffer.specs.First.{pick}
 use Rattle.buffer.specs.Byte.{within}
-use Rattle.buffer.proofs.Laws.{within-above}
+use Rattle.buffer.proofs.Laws.{within_above}
 use Rattle.buffer.proofs.Rules.{each}
-use Rattle.frames.specs.Frame.{lengthFits, misshapen}
+use Rattle.frames.specs.Frame.{length_fits, misshapen}
 use Rattle.gauge_rules.specs.State.{State}
-use Rattle.gauge_table.specs.Table.{answerRoom, number_of}
+use Rattle.gauge_table.specs.Table.{answer_room, number_of}
 use Rattle.gauge_table.proofs.DecidedV2.{by}
 use Rattle.gauge_table.specs.After.{answer_of}
-use Rattle.gauge_facts.proofs.Refused.{silent-stays, silent-sends}
+use Rattle.gauge_facts.proofs.Refused.{silent_stays, silent_sends}
 use Rattle.service_facts.specs.Theorems.{LongShape, LongSilent, LongStays}
 
-unfit : (s : List ℕ) → 109 < length s → lengthFits s ≡ false
-unfolding lengthFits
+unfit : (s : List ℕ) → 109 < length s → length_fits s ≡ false
+unfolding length_fits
 unfit s h =
-    each (λ (t : Bool). t ≡ false) _ _ _ (λ _. within-above 10 109 (length s) h)
-    (λ _. each (λ (t : Bool). t ≡ false) _ _ _ (λ _. within-above 6 12 (length s) (omega arith)) (λ _. refl))
+    each (λ (t : Bool). t ≡ false) _ _ _ (λ _. within_above 10 109 (length s) h)
+    (λ _. each (λ (t : Bool). t ≡ false) _ _ _ (λ _. within_above 6 12 (length s) (omega arith)) (λ _. refl))
 
-pub long-shape : LongShape
+pub long_shape : LongShape
 unfolding misshapen pick
-long-shape s h = rw (unfit s h)
+long_shape s h = rw (unfit s h)
 
-long-number : (s : List ℕ) → 109 < length s → (g : State) (room : ℕ) → within 1 5 (number_of g room s) ≡ true
+long_number : (s : List ℕ) → 109 < length s → (g : State) (room : ℕ) → within 1 5 (number_of g room s) ≡ true
 unfolding number_of pick within
-long-number s h g room = by (ltb room answerRoom) (λ e. rw e) (λ e. rw (e, long-shape s h))
+long_number s h g room = by (ltb room answer_room) (λ e. rw e) (λ e. rw (e, long_shape s h))
 
 -- in every state, whatever memory is lent
-pub long-silent : LongSilent
+pub long_silent : LongSilent
 unfolding answer_of
-long-silent s h g room = silent-sends g room s (long-number s h g room)
+long_silent s h g room = silent_sends g room s (long_number s h g room)
 
-pub long-stays : LongStays
-long-stays s h g room = silent-stays g room s (long-number s h g room)
+pub long_stays : LongStays
+long_stays s h g room = silent_stays g room s (long_number s h g room)

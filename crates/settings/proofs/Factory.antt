@@ -2,18 +2,18 @@
 use mathlib.Core.Path.{◌≡◌, refl}
 use Rattle.sources.specs.declared.Profile.{Profile}
 use Rattle.sources.specs.declared.Profile.TheVariants.{Standard, Vsh, Vsm}
-use Rattle.settings.specs.Limits.{limitsOf}
-use Rattle.settings.specs.Settings.{Held, factory, restoreOf}
-use Rattle.settings.specs.Sent.{readText}
-use Rattle.settings.specs.Tables.{transitionAt, factoryText}
+use Rattle.settings.specs.Limits.{limits_of}
+use Rattle.settings.specs.Settings.{Held, factory, restore_of}
+use Rattle.settings.specs.Sent.{read_text}
+use Rattle.settings.specs.Tables.{transition_at, factory_text}
 use Rattle.settings.specs.declared.Key.{Key}
 use Rattle.settings.specs.declared.Key.TheVariants.{DA, DU, C1, CM, CC, FC, ST, SM}
 use Rattle.settings.specs.Theorems.{FactoryReads, RestoreReads}
-use Rattle.settings.proofs.Open.{settings-open}
+use Rattle.settings.proofs.Open.{settings_open}
 
 -- both, row by row
-column : (p : Profile) (s : Held) (key : Key) → (readText key (factory (limitsOf p)) ≡ factoryText p key) × (readText key (restoreOf (limitsOf p) s key) ≡ factoryText p key)
-unfolding settings-open transitionAt factoryText
+column : (p : Profile) (s : Held) (key : Key) → (read_text key (factory (limits_of p)) ≡ factory_text p key) × (read_text key (restore_of (limits_of p) s key) ≡ factory_text p key)
+unfolding settings_open transition_at factory_text
 column p s DA = (refl, refl)
 column p s DU = (refl, refl)
 column p s C1 = (refl, refl)
@@ -25,8 +25,8 @@ column Vsh s ST = (refl, refl)
 column Vsm s ST = (refl, refl)
 column p s SM = (refl, refl)
 
-pub factory-reads : FactoryReads
-factory-reads p key = (column p (factory (limitsOf p)) key).0
+pub factory_reads : FactoryReads
+factory_reads p key = (column p (factory (limits_of p)) key).0
 
-pub restore-reads : RestoreReads
-restore-reads p s key = (column p s key).1
+pub restore_reads : RestoreReads
+restore_reads p s key = (column p s key).1

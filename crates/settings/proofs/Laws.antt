@@ -6,17 +6,17 @@ use native.Mathlib.Omega.{arith}
 use lib.ListN.{length, length-append}
 use lib.Dec.{eqb}
 use Rattle.buffer.specs.First.{pick}
-use Rattle.buffer.proofs.Laws.{within-true, within_in}
+use Rattle.buffer.proofs.Laws.{within_true, within_in}
 use Rattle.decimal.specs.declared.Number.{Number}
 use Rattle.decimal_text.specs.Written.{written_of}
-use Rattle.decimal_text.proofs.Laws.{written-le}
-use Rattle.sources.specs.Source.{among, capacity, sourcesOf, total}
+use Rattle.decimal_text.proofs.Laws.{written_le}
+use Rattle.sources.specs.Source.{among, capacity, sources_of, total}
 use Rattle.sources.specs.declared.Profile.{Profile}
 use Rattle.sources.specs.declared.Profile.TheVariants.{Standard, Vsh, Vsm}
 use Rattle.sources.proofs.Profiles.{few, zero_in}
-use Rattle.settings.specs.Limits.{standard, limitsOf, isFactor, width_of, longestLine}
-use Rattle.settings.specs.Units.{unitNamed}
-use Rattle.settings.specs.Sent.{transitionText}
+use Rattle.settings.specs.Limits.{standard, limits_of, is_factor, width_of, longest_line}
+use Rattle.settings.specs.Units.{unit_named}
+use Rattle.settings.specs.Sent.{transition_text}
 use Rattle.settings.specs.declared.PressureUnit.{PressureUnit}
 use Rattle.settings.specs.declared.PressureUnit.TheVariants.{Mbar, Torr, HPa}
 use Rattle.settings.specs.declared.NamedUnit.{NamedUnit}
@@ -27,52 +27,52 @@ use Rattle.settings.specs.Theorems.{LongestIs}
 
 -- a written number has at most eleven characters
 eleven : (n : Number) → length (written_of n) ≤ 11
-eleven n = omega (arith, written-le n, one n.negative)
+eleven n = omega (arith, written_le n, one n.negative)
   where
     one : (b : Bool) → cond b 1 0 ≤ 1
     one true = omega arith
     one false = omega arith
 
-pub transition-le : (t : Transition) → length (transitionText t) ≤ 24
-unfolding transitionText
-transition-le (Direct n) = simp length-append (omega (arith, eleven n))
-transition-le (Between a b) = simp length-append (omega (arith, eleven a, eleven b))
+pub transition_le : (t : Transition) → length (transition_text t) ≤ 24
+unfolding transition_text
+transition_le (Direct n) = simp length-append (omega (arith, eleven n))
+transition_le (Between a b) = simp length-append (omega (arith, eleven a, eleven b))
 
-pub longest-is : LongestIs
-unfolding limitsOf longestLine total width_of pick
-longest-is = (refl, refl, refl)
+pub longest_is : LongestIs
+unfolding limits_of longest_line total width_of pick
+longest_is = (refl, refl, refl)
 
 -- the sources of a profile's limits are the profile's
-pub codes-are : (p : Profile) → (limitsOf p).sourceCodes ≡ sourcesOf p
-unfolding limitsOf
-codes-are Standard = refl
-codes-are Vsh = refl
-codes-are Vsm = refl
+pub codes_are : (p : Profile) → (limits_of p).source_codes ≡ sources_of p
+unfolding limits_of
+codes_are Standard = refl
+codes_are Vsh = refl
+codes_are Vsm = refl
 
 -- the sources of a profile: `0` is one of them, and each has a place in a list
-pub zero-here : (p : Profile) → among (limitsOf p).sourceCodes 0 ≡ true
-unfolding limitsOf
-zero-here Standard = zero_in Standard
-zero-here Vsh = zero_in Vsh
-zero-here Vsm = zero_in Vsm
+pub zero_here : (p : Profile) → among (limits_of p).source_codes 0 ≡ true
+unfolding limits_of
+zero_here Standard = zero_in Standard
+zero_here Vsh = zero_in Vsh
+zero_here Vsm = zero_in Vsm
 
-pub few-here : (p : Profile) → length (limitsOf p).sourceCodes ≤ capacity
-unfolding limitsOf
-few-here Standard = few Standard
-few-here Vsh = few Vsh
-few-here Vsm = few Vsm
+pub few_here : (p : Profile) → length (limits_of p).source_codes ≤ capacity
+unfolding limits_of
+few_here Standard = few Standard
+few_here Vsh = few Vsh
+few_here Vsm = few Vsm
 
 -- ---- the factor
 
 -- within its limits, and below 2 ^ 16
-pub factor-true : (n : ℕ) → isFactor n ≡ true → (standard.factorLow ≤ n) × (n ≤ standard.factorHigh)
-factor-true n e = within-true standard.factorLow standard.factorHigh n e
+pub factor_true : (n : ℕ) → is_factor n ≡ true → (standard.factor_low ≤ n) × (n ≤ standard.factor_high)
+factor_true n e = within_true standard.factor_low standard.factor_high n e
 
-pub factor-is : (n : ℕ) → standard.factorLow ≤ n → n ≤ standard.factorHigh → isFactor n ≡ true
-factor-is n h k = within_in standard.factorLow standard.factorHigh n h k
+pub factor_is : (n : ℕ) → standard.factor_low ≤ n → n ≤ standard.factor_high → is_factor n ≡ true
+factor_is n h k = within_in standard.factor_low standard.factor_high n h k
 
-pub factor-small : (n : ℕ) → isFactor n ≡ true → n < 65536
-factor-small n e = omega (arith, (factor-true n e).1)
+pub factor_small : (n : ℕ) → is_factor n ≡ true → n < 65536
+factor_small n e = omega (arith, (factor_true n e).1)
 
 -- ---- the units
 
@@ -81,9 +81,9 @@ abbrev pub named_by : {A : Type 0} (f : PressureUnit → A) (d : A) → NamedUni
 named_by f d (Unit u) = f u
 named_by f d None = d
 
-pub unit-by : {A : Type 0} (f : PressureUnit → A) (d : A) (n : ℕ) → unitNamed f d n ≡ named_by f d (unitNamed Unit None n)
+pub unit_by : {A : Type 0} (f : PressureUnit → A) (d : A) (n : ℕ) → unit_named f d n ≡ named_by f d (unit_named Unit None n)
 unfolding pick
-unit-by f d n = go (eqb n 0) (eqb n 1) (eqb n 2)
+unit_by f d n = go (eqb n 0) (eqb n 1) (eqb n 2)
   where
     go : (a b c : Bool) → pick a (f Mbar) (pick b (f Torr) (pick c (f HPa) d)) ≡ named_by f d (pick a (Unit Mbar) (pick b (Unit Torr) (pick c (Unit HPa) None)))
     go true b c = refl

@@ -1,11 +1,11 @@
--- To compute with these definitions: `unfolding settings-open` opens every one of this crate, and those that they stand on.
-use Rattle.decimal_text.proofs.Open.{decimal-text-open}
-use Rattle.sources.proofs.Open.{sources-open}
-use Rattle.settings.specs.Limits.{limitsOf, width_of, longestLine}
-use Rattle.settings.specs.Sent.{unitText, transitionText, streamText, readText}
-use Rattle.settings.specs.Settings.{factoryOf, put_of, restoreOf, changedBy}
-use Rattle.settings.specs.Units.{unitCode}
+-- To compute with these definitions: `unfolding settings_open` opens every one of this crate, and those that they stand on.
+use Rattle.decimal_text.proofs.Open.{decimal_text_open}
+use Rattle.sources.proofs.Open.{sources_open}
+use Rattle.settings.specs.Limits.{limits_of, width_of, longest_line}
+use Rattle.settings.specs.Sent.{unit_text, transition_text, stream_text, read_text}
+use Rattle.settings.specs.Settings.{factory_of, put_of, restore_of, changed_by}
+use Rattle.settings.specs.Units.{unit_code}
 
-unfoldable pub settings-open : Unit {0}
-unfolding decimal-text-open sources-open limitsOf width_of longestLine unitText transitionText streamText readText factoryOf put_of restoreOf changedBy unitCode
-settings-open = tt
+unfoldable pub settings_open : Unit {0}
+unfolding decimal_text_open sources_open limits_of width_of longest_line unit_text transition_text stream_text read_text factory_of put_of restore_of changed_by unit_code
+settings_open = tt

@@ -30,7 +30,7 @@ held s = record { address = s.address; unit = s.unit; factor = s.factor; control
 
 -- the column "Factory", with the profile's transition
 abbrev pub factory : ProfileLimits → Held
-factory limits = record { address = 1; unit = Mbar; factor = 100; control = 1; cathode = 1; filament = 0; transition = limits.factoryTransition; streaming = false; list = [] }
+factory limits = record { address = 1; unit = Mbar; factor = 100; control = 1; cathode = 1; filament = 0; transition = limits.factory_transition; streaming = false; list = [] }
 
 -- the command of a setting
 abbrev pub key_of : Setting → Key
@@ -44,36 +44,36 @@ key_of (Switch t) = ST
 key_of (Stream on) = SM
 
 -- the factory value of one setting
-unfoldable pub factoryOf : ProfileLimits → Key → Setting
-factoryOf limits DA = Address (factory limits).address
-factoryOf limits DU = PressureIn (factory limits).unit
-factoryOf limits C1 = Factor (factory limits).factor
-factoryOf limits CM = Control (factory limits).control
-factoryOf limits CC = Cathode (factory limits).cathode
-factoryOf limits FC = Filament (factory limits).filament
-factoryOf limits ST = Switch (factory limits).transition
-factoryOf limits SM = Stream (factory limits).streaming
+unfoldable pub factory_of : ProfileLimits → Key → Setting
+factory_of limits DA = Address (factory limits).address
+factory_of limits DU = PressureIn (factory limits).unit
+factory_of limits C1 = Factor (factory limits).factor
+factory_of limits CM = Control (factory limits).control
+factory_of limits CC = Cathode (factory limits).cathode
+factory_of limits FC = Filament (factory limits).filament
+factory_of limits ST = Switch (factory limits).transition
+factory_of limits SM = Stream (factory limits).streaming
 
 -- the settings with this unit and this transition
-abbrev pub bothOf : Held → PressureUnit → Transition → Held
-bothOf s u t = record { address = s.address; unit = u; factor = s.factor; control = s.control; cathode = s.cathode; filament = s.filament; transition = t; streaming = s.streaming; list = s.list }
+abbrev pub both_of : Held → PressureUnit → Transition → Held
+both_of s u t = record { address = s.address; unit = u; factor = s.factor; control = s.control; cathode = s.cathode; filament = s.filament; transition = t; streaming = s.streaming; list = s.list }
 
 -- the settings with one of them set, and no other changed; the list counts for SM only
 unfoldable pub put_of : Held → Setting → List ℕ → Held
 put_of s (Address v) list = record { address = v; unit = s.unit; factor = s.factor; control = s.control; cathode = s.cathode; filament = s.filament; transition = s.transition; streaming = s.streaming; list = s.list }
-put_of s (PressureIn v) list = bothOf s v s.transition
+put_of s (PressureIn v) list = both_of s v s.transition
 put_of s (Factor v) list = record { address = s.address; unit = s.unit; factor = v; control = s.control; cathode = s.cathode; filament = s.filament; transition = s.transition; streaming = s.streaming; list = s.list }
 put_of s (Control v) list = record { address = s.address; unit = s.unit; factor = s.factor; control = v; cathode = s.cathode; filament = s.filament; transition = s.transition; streaming = s.streaming; list = s.list }
 put_of s (Cathode v) list = record { address = s.address; unit = s.unit; factor = s.factor; control = s.control; cathode = v; filament = s.filament; transition = s.transition; streaming = s.streaming; list = s.list }
 put_of s (Filament v) list = record { address = s.address; unit = s.unit; factor = s.factor; control = s.control; cathode = s.cathode; filament = v; transition = s.transition; streaming = s.streaming; list = s.list }
-put_of s (Switch v) list = bothOf s s.unit v
+put_of s (Switch v) list = both_of s s.unit v
 put_of s (Stream v) list = record { address = s.address; unit = s.unit; factor = s.factor; control = s.control; cathode = s.cathode; filament = s.filament; transition = s.transition; streaming = v; list = list }
 
 -- the settings with one of them at its factory value
-unfoldable pub restoreOf : ProfileLimits → Held → Key → Held
-restoreOf limits s key = put_of s (factoryOf limits key) []
+unfoldable pub restore_of : ProfileLimits → Held → Key → Held
+restore_of limits s key = put_of s (factory_of limits key) []
 
 -- the settings after a change: as they were, or with one of them set
-unfoldable pub changedBy : Held → Put → List ℕ → Held
-changedBy s Nothing list = s
-changedBy s (Value x) list = put_of s x list
+unfoldable pub changed_by : Held → Put → List ℕ → Held
+changed_by s Nothing list = s
+changed_by s (Value x) list = put_of s x list

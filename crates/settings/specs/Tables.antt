@@ -7,17 +7,17 @@ use Rattle.settings.specs.declared.Key.{Key}
 use Rattle.settings.specs.declared.Key.TheVariants.{DA, DU, C1, CM, CC, FC, ST, SM}
 
 -- document 02: "the factory value of ST becomes D 1", "`D1e0`"; VSH and VSM have "factory value D 1e-3"
-unfoldable pub transitionAt : Profile → List ℕ
-transitionAt Standard = bytes "D1e0"
-transitionAt Vsh = bytes "D1e-3"
-transitionAt Vsm = bytes "D1e-3"
+unfoldable pub transition_at : Profile → List ℕ
+transition_at Standard = bytes "D1e0"
+transition_at Vsh = bytes "D1e-3"
+transition_at Vsm = bytes "D1e-3"
 
-unfoldable pub factoryText : Profile → Key → List ℕ
-factoryText p DA = bytes "001"
-factoryText p DU = bytes "mbar"
-factoryText p C1 = bytes "1.00"
-factoryText p CM = bytes "1"
-factoryText p CC = bytes "1"
-factoryText p FC = bytes "0"
-factoryText p ST = transitionAt p
-factoryText p SM = bytes "0"
+unfoldable pub factory_text : Profile → Key → List ℕ
+factory_text p DA = bytes "001"
+factory_text p DU = bytes "mbar"
+factory_text p C1 = bytes "1.00"
+factory_text p CM = bytes "1"
+factory_text p CC = bytes "1"
+factory_text p FC = bytes "0"
+factory_text p ST = transition_at p
+factory_text p SM = bytes "0"

@@ -5,14 +5,14 @@ use Rattle.settings.specs.declared.PressureUnit.{PressureUnit}
 use Rattle.settings.specs.declared.PressureUnit.TheVariants.{Mbar, Torr, HPa}
 
 -- the number of a unit
-unfoldable pub unitCode : PressureUnit → ℕ
-unitCode Mbar = 0
-unitCode Torr = 1
-unitCode HPa = 2
+unfoldable pub unit_code : PressureUnit → ℕ
+unit_code Mbar = 0
+unit_code Torr = 1
+unit_code HPa = 2
 
 -- what f gives of the unit that n names, and d where it names none
-abbrev pub unitNamed : {A : Type 0} → (PressureUnit → A) → A → ℕ → A
-unitNamed f d n =
+abbrev pub unit_named : {A : Type 0} → (PressureUnit → A) → A → ℕ → A
+unit_named f d n =
     first
     (eqb n 0 ⇒ f Mbar
     ∷ eqb n 1 ⇒ f Torr

@@ -4,11 +4,11 @@ ghost use Rattle.std.specs.Prelude.{◌≡◌, [], ◌∷◌};
 ghost use Rattle.buffer.specs.Text.{text_of};
 ghost use Rattle.buffer.specs.Byte.{digit, digits3};
 ghost use Rattle.sources.specs.Source.{list_of, Counted};
-ghost use Rattle.settings.specs.Limits.{isFactor, limitsOf};
-ghost use Rattle.settings.specs.Settings.{held, factory, key_of, factoryOf, bothOf, put_of, restoreOf, changedBy};
+ghost use Rattle.settings.specs.Limits.{is_factor, limits_of};
+ghost use Rattle.settings.specs.Settings.{held, factory, key_of, factory_of, both_of, put_of, restore_of, changed_by};
 ghost use Rattle.settings.specs.declared.NamedUnit.{NamedUnit};
-ghost use Rattle.settings.specs.Units.{unitCode, unitNamed};
-ghost use Rattle.settings.specs.Sent.{unitText, transitionText, streamText, readText};
+ghost use Rattle.settings.specs.Units.{unit_code, unit_named};
+ghost use Rattle.settings.specs.Sent.{unit_text, transition_text, stream_text, read_text};
 
 // The unit of pressure, DU.
 #[derive(Drop)]
@@ -179,14 +179,14 @@ impl Settings {
 
     // Whether a factor, in hundredths, lies within its limits.
     pub fn is_factor(n: u32) -> bool
-        ensures { result ≡ isFactor n }
+        ensures { result ≡ is_factor n }
     {
         Settings::FACTOR_MIN as u32 <= n && n <= Settings::FACTOR_MAX as u32
     }
 
     // The lower limit of ST's numbers.
     pub fn transition_min(profile: sources::Profile) -> decimal::Number
-        ensures { result ≡ (limitsOf profile).transitionLow }
+        ensures { result ≡ (limits_of profile).transition_low }
     {
         match profile {
             sources::Profile::Standard => Settings::TRANSITION_MIN,
@@ -197,7 +197,7 @@ impl Settings {
 
     // The upper limit of ST's numbers.
     pub fn transition_max(profile: sources::Profile) -> decimal::Number
-        ensures { result ≡ (limitsOf profile).transitionHigh }
+        ensures { result ≡ (limits_of profile).transition_high }
     {
         match profile {
             sources::Profile::Standard => Settings::TRANSITION_MAX,
@@ -208,7 +208,7 @@ impl Settings {
 
     // Whether ST has the form of two numbers.
     pub fn has_between(profile: sources::Profile) -> bool
-        ensures { result ≡ (limitsOf profile).betweenForm }
+        ensures { result ≡ (limits_of profile).between_form }
     {
         match profile {
             sources::Profile::Standard => true,
@@ -219,7 +219,7 @@ impl Settings {
 
     // The factory transition.
     pub fn factory_transition(profile: sources::Profile) -> Transition
-        ensures { result ≡ (limitsOf profile).factoryTransition }
+        ensures { result ≡ (limits_of profile).factory_transition }
     {
         let f = Settings::FACTORY;
         let transition = f.transition;
@@ -232,7 +232,7 @@ impl Settings {
 
     // The settings as they leave the works.
     pub fn at_factory(profile: sources::Profile) -> Settings
-        ensures result_value { held result ≡ factory (limitsOf profile) }
+        ensures result_value { held result ≡ factory (limits_of profile) }
         ensures counted { Counted result.sources }
     {
         let f = Settings::FACTORY;
@@ -242,7 +242,7 @@ impl Settings {
 
     // The factory value of one setting.
     pub fn factory_value(profile: sources::Profile, key: Key) -> Setting
-        ensures { result ≡ factoryOf (limitsOf profile) key }
+        ensures { result ≡ factory_of (limits_of profile) key }
     {
         let f = Settings::FACTORY;
         let unit = f.unit;
@@ -260,7 +260,7 @@ impl Settings {
 
     // The settings made anew: a field that is an enum is not stored to.
     fn with_both(self, unit: PressureUnit, transition: Transition) -> Settings
-        ensures result_value { held result ≡ bothOf (held self) unit transition }
+        ensures result_value { held result ≡ both_of (held self) unit transition }
         ensures sources_value { result.sources ≡ self.sources }
     {
         let sources = self.sources;
@@ -318,7 +318,7 @@ impl Settings {
 
     // The settings with one of them at its factory value.
     pub fn restored(self, profile: sources::Profile, key: Key) -> Settings
-        ensures result_value { held result ≡ restoreOf (limitsOf profile) (held self) key }
+        ensures result_value { held result ≡ restore_of (limits_of profile) (held self) key }
         ensures counted { Counted self.sources → Counted result.sources }
     {
         self.with(
@@ -329,7 +329,7 @@ impl Settings {
 
     // The settings after a change.
     pub fn changed(self, change: Change) -> Settings
-        ensures result_value { held result ≡ changedBy (held self) change.put (list_of change.sources) }
+        ensures result_value { held result ≡ changed_by (held self) change.put (list_of change.sources) }
         ensures counted { Counted self.sources → Counted change.sources → Counted result.sources }
     {
         let put = change.put;
@@ -342,7 +342,7 @@ impl Settings {
 
     // The text that a read of one setting sends.
     pub fn text(self, key: Key) -> buffer::Text
-        ensures { text_of result ≡ readText key (held self) }
+        ensures { text_of result ≡ read_text key (held self) }
     {
         let unit = self.unit;
         let transition = self.transition;
@@ -390,7 +390,7 @@ pub fn address_text(address: u8) -> buffer::Text
 
 // `mbar`, `Torr` or `hPa`.
 pub fn unit_text(unit: PressureUnit) -> buffer::Text
-    ensures { text_of result ≡ unitText unit }
+    ensures { text_of result ≡ unit_text unit }
 {
     match unit {
         PressureUnit::Mbar => {
@@ -410,7 +410,7 @@ pub fn unit_text(unit: PressureUnit) -> buffer::Text
 
 // V1's number of a unit.
 pub fn unit_number(unit: PressureUnit) -> u32
-    ensures { result ≡ unitCode unit }
+    ensures { result ≡ unit_code unit }
 {
     match unit {
         PressureUnit::Mbar => 0,
@@ -421,7 +421,7 @@ pub fn unit_number(unit: PressureUnit) -> u32
 
 // The unit that one of V1's numbers names, or none.
 pub fn unit_named(n: u32) -> NamedUnit
-    ensures { result ≡ unitNamed NamedUnit.Unit NamedUnit.None n }
+    ensures { result ≡ unit_named NamedUnit.Unit NamedUnit.None n }
 {
     match n {
         0 => NamedUnit::Unit(PressureUnit::Mbar),
@@ -440,7 +440,7 @@ pub fn digit_text(d: u8) -> buffer::Text
 
 // `D` and a number, or `F`, a number, `T` and a number.
 pub fn transition_text(transition: Transition) -> buffer::Text
-    ensures { text_of result ≡ transitionText transition }
+    ensures { text_of result ≡ transition_text transition }
 {
     match transition {
         Transition::Direct(n) => buffer::Text::EMPTY
@@ -456,7 +456,7 @@ pub fn transition_text(transition: Transition) -> buffer::Text
 
 // `0`, or `4` and a list.
 pub fn stream_text(on: bool, list: sources::Sources) -> buffer::Text
-    ensures { text_of result ≡ streamText on (list_of list) }
+    ensures { text_of result ≡ stream_text on (list_of list) }
 {
     if on {
         return sources::with_list(buffer::Text::EMPTY.push(b'4'), list);

@@ -1,7 +1,7 @@
 -- Sources and their texts.
 use Rattle.std.specs.Prelude.{◌≡◌, Bool, true, false, ◌&&◌, ◌||◌, not, List, [], ◌∷◌, ◌++◌, ℕ, ◌+◌, ◌-◌, eqb, length, take}
 use Rattle.buffer.specs.First.{◌⇒◌, first, pick}
-use Rattle.buffer.specs.Byte.{at, within, isDigit, every, sameText, digit}
+use Rattle.buffer.specs.Byte.{at, within, is_digit, every, same_text, digit}
 use Rattle.buffer.specs.Quoted.{bytes}
 use Rattle.sources.specs.declared.Source.{Source}
 use Rattle.sources.specs.declared.Source.TheVariants.{Known, Unknown, Malformed}
@@ -10,18 +10,18 @@ use Rattle.sources.specs.declared.Profile.{Profile}
 use Rattle.sources.specs.declared.Profile.TheVariants.{Standard, Vsh, Vsm}
 
 -- A source is known by a code: its digit, or 8 for `T2`, 9 for `T6`. "The sources here are exactly `0 1 2 6 7 T2 T6`"
-abbrev pub knownSources : List ℕ
-knownSources = 0 ∷ 1 ∷ 2 ∷ 6 ∷ 7 ∷ 8 ∷ 9 ∷ []
+abbrev pub known_sources : List ℕ
+known_sources = 0 ∷ 1 ∷ 2 ∷ 6 ∷ 7 ∷ 8 ∷ 9 ∷ []
 
 -- VSH and VSM: "their streams offer sources 0, 1 and T2"
-abbrev pub hotSources : List ℕ
-hotSources = 0 ∷ 1 ∷ 8 ∷ []
+abbrev pub hot_sources : List ℕ
+hot_sources = 0 ∷ 1 ∷ 8 ∷ []
 
 -- the sources of a profile; "the existing gauge becomes the third profile, unchanged"
-abbrev pub sourcesOf : Profile → List ℕ
-sourcesOf Standard = knownSources
-sourcesOf Vsh = hotSources
-sourcesOf Vsm = hotSources
+abbrev pub sources_of : Profile → List ℕ
+sources_of Standard = known_sources
+sources_of Vsh = hot_sources
+sources_of Vsm = hot_sources
 
 -- whether c is one of the codes
 unfoldable pub among : List ℕ → ℕ → Bool
@@ -33,22 +33,22 @@ abbrev pub capacity : ℕ
 capacity = 7
 
 -- whether no source of a list stands twice
-unfoldable pub allDiffer : List ℕ → Bool
-allDiffer [] = true
-allDiffer (c ∷ list) = not (among list c) && allDiffer list
+unfoldable pub all_differ : List ℕ → Bool
+all_differ [] = true
+all_differ (c ∷ list) = not (among list c) && all_differ list
 
 -- "a source may stand once in a stream list, and `0`, which is always first, may not be listed": of the sources of the line, `0` and then the
 -- list, none stands twice
-abbrev pub standOnce : List ℕ → Bool
-standOnce list = allDiffer (0 ∷ list)
+abbrev pub stand_once : List ℕ → Bool
+stand_once list = all_differ (0 ∷ list)
 
 -- whether SM can have a list, where these are the gauge's sources
 unfoldable pub listable : List ℕ → List ℕ → Bool
-listable codes list = every (among codes) list && standOnce list
+listable codes list = every (among codes) list && stand_once list
 
 -- how many entries can pass: each source but `0`, once
-abbrev pub mostEntries : List ℕ → ℕ
-mostEntries codes = length codes - 1
+abbrev pub most_entries : List ℕ → ℕ
+most_entries codes = length codes - 1
 
 -- the sum of a weight over a list
 unfoldable pub total : (ℕ → ℕ) → List ℕ → ℕ
@@ -56,21 +56,21 @@ total weight [] = 0
 total weight (c ∷ list) = weight c + total weight list
 
 -- the text of a source's code
-unfoldable pub sourceText : ℕ → List ℕ
-sourceText c = first (eqb c 8 ⇒ bytes "T2" ∷ eqb c 9 ⇒ bytes "T6" ∷ []) (digit c ∷ [])
+unfoldable pub source_text : ℕ → List ℕ
+source_text c = first (eqb c 8 ⇒ bytes "T2" ∷ eqb c 9 ⇒ bytes "T6" ∷ []) (digit c ∷ [])
 
 -- "one or two digits, or `T` and a digit"
-unfoldable pub isSource : List ℕ → Bool
-isSource t = every isDigit t && within 1 2 (length t) || eqb (length t) 2 && eqb (at t 0) 84 && isDigit (at t 1)
+unfoldable pub is_source : List ℕ → Bool
+is_source t = every is_digit t && within 1 2 (length t) || eqb (length t) 2 && eqb (at t 0) 84 && is_digit (at t 1)
 
 -- the first of these codes whose text it is
-unfoldable pub findSource : List ℕ → List ℕ → Source
-findSource [] t = Unknown
-findSource (c ∷ cs) t = pick (sameText t (sourceText c)) (Known c) (findSource cs t)
+unfoldable pub find_source : List ℕ → List ℕ → Source
+find_source [] t = Unknown
+find_source (c ∷ cs) t = pick (same_text t (source_text c)) (Known c) (find_source cs t)
 
 -- what the text of an entry's source is: not of the form, or one of these codes, or unknown
-unfoldable pub sourceOf : List ℕ → List ℕ → Source
-sourceOf codes t = first (not (isSource t) ⇒ Malformed ∷ []) (findSource codes t)
+unfoldable pub source_of : List ℕ → List ℕ → Source
+source_of codes t = first (not (is_source t) ⇒ Malformed ∷ []) (find_source codes t)
 
 -- the codes of a list; a count past the array's end counts as the end
 unfoldable pub list_of : Sources → List ℕ
@@ -86,6 +86,6 @@ pub record Pushed (q : Sources) (code : ℕ) (r : Sources) : Type 0 where
   pub count : Counted r
 
 -- the text of a list: each entry is `D` and a source
-unfoldable pub listText : List ℕ → List ℕ
-listText [] = []
-listText (c ∷ cs) = (68 ∷ []) ++ sourceText c ++ listText cs
+unfoldable pub list_text : List ℕ → List ℕ
+list_text [] = []
+list_text (c ∷ cs) = (68 ∷ []) ++ source_text c ++ list_text cs

@@ -3,9 +3,9 @@
 ghost use Rattle.std.specs.Prelude.{◌≡◌, [], ◌∷◌, ◌++◌, length};
 ghost use Rattle.buffer.specs.Byte.{every};
 ghost use Rattle.buffer.specs.Text.{text_of, cut};
-ghost use Rattle.sources.specs.Source.{knownSources, hotSources, sourcesOf, among, allDiffer, standOnce, listable, sourceOf, sourceText, list_of, Counted, Pushed, listText};
+ghost use Rattle.sources.specs.Source.{known_sources, hot_sources, sources_of, among, all_differ, stand_once, listable, source_of, source_text, list_of, Counted, Pushed, list_text};
 ghost use Rattle.sources.specs.Entries.{opens, Lists};
-ghost use Rattle.sources.specs.Inner.{offeredAs, Taken, Ran};
+ghost use Rattle.sources.specs.Inner.{offered_as, Taken, Ran};
 
 // The profiles: VSH and VSM, the hot cathode gauges, and the gauge of document 01. Where none is named, it is Standard.
 #[derive(Drop)]
@@ -67,7 +67,7 @@ impl Sources {
 
 // Whether a code is one of the seven sources.
 fn is_code(c: u8) -> bool
-    ensures { result ≡ among knownSources c }
+    ensures { result ≡ among known_sources c }
 {
     if c == 0 {
         return true;
@@ -92,7 +92,7 @@ fn is_code(c: u8) -> bool
 
 // Whether a code is one of the sources of a hot cathode gauge.
 fn is_hot_code(c: u8) -> bool
-    ensures { result ≡ among hotSources c }
+    ensures { result ≡ among hot_sources c }
 {
     if c == 0 {
         return true;
@@ -105,7 +105,7 @@ fn is_hot_code(c: u8) -> bool
 
 // Whether gauges of this profile have the source of a code.
 pub fn offers(profile: Profile, c: u8) -> bool
-    ensures { result ≡ among (sourcesOf profile) c }
+    ensures { result ≡ among (sources_of profile) c }
 {
     match profile {
         Profile::Standard => is_code(c),
@@ -116,7 +116,7 @@ pub fn offers(profile: Profile, c: u8) -> bool
 
 // Whether each code of a list is one of the profile's sources.
 fn all_codes(profile: Profile, codes: &[u8]) -> bool
-    ensures { result ≡ every (among (sourcesOf profile)) codes.now }
+    ensures { result ≡ every (among (sources_of profile)) codes.now }
 {
     let mut i: usize = 0;
     while i < codes.len() {
@@ -130,7 +130,7 @@ fn all_codes(profile: Profile, codes: &[u8]) -> bool
 
 // Whether each source of a list is one of the profile's.
 pub fn all_known(profile: Profile, q: Sources) -> bool
-    ensures { result ≡ every (among (sourcesOf profile)) (list_of q) }
+    ensures { result ≡ every (among (sources_of profile)) (list_of q) }
 {
     let codes = q.codes;
     let n = q.size();
@@ -146,7 +146,7 @@ fn has(codes: &[u8], c: u8) -> bool
 
 // Whether no code stands twice.
 fn all_differ(codes: &[u8]) -> bool
-    ensures { result ≡ allDiffer codes.now }
+    ensures { result ≡ all_differ codes.now }
 {
     let mut i: usize = 0;
     while i < codes.len() {
@@ -160,7 +160,7 @@ fn all_differ(codes: &[u8]) -> bool
 
 // Whether no source stands twice on the line of a list: `0`, which is always first, and then the list.
 pub fn stand_once(q: Sources) -> bool
-    ensures { result ≡ standOnce (list_of q) }
+    ensures { result ≡ stand_once (list_of q) }
 {
     let codes = q.codes;
     let n = q.size();
@@ -172,7 +172,7 @@ pub fn stand_once(q: Sources) -> bool
 
 // Whether SM of a gauge of this profile can have a list.
 pub fn is_listable(profile: Profile, q: Sources) -> bool
-    ensures { result ≡ listable (sourcesOf profile) (list_of q) }
+    ensures { result ≡ listable (sources_of profile) (list_of q) }
 {
     if !all_known(profile, q) {
         return false;
@@ -182,7 +182,7 @@ pub fn is_listable(profile: Profile, q: Sources) -> bool
 
 // A source of one character.
 fn short_source(b: u8) -> Source
-    ensures { result ≡ sourceOf knownSources (b ∷ []) }
+    ensures { result ≡ source_of known_sources (b ∷ []) }
 {
     match b {
         48 => Source::Known(0),
@@ -201,7 +201,7 @@ fn short_source(b: u8) -> Source
 
 // A source of two characters.
 fn long_source(a: u8, b: u8) -> Source
-    ensures { result ≡ sourceOf knownSources (a ∷ b ∷ []) }
+    ensures { result ≡ source_of known_sources (a ∷ b ∷ []) }
 {
     if !buffer::is_within(b, 48, 57) {
         return Source::Malformed;
@@ -223,7 +223,7 @@ fn long_source(a: u8, b: u8) -> Source
 
 // What a text is as the name of a source, whatever the profile.
 pub fn source_of(t: &[u8]) -> Source
-    ensures { result ≡ sourceOf knownSources t.now }
+    ensures { result ≡ source_of known_sources t.now }
 {
     let n = t.len();
     if n == 1 {
@@ -237,7 +237,7 @@ pub fn source_of(t: &[u8]) -> Source
 
 // What a source is to a profile: one that the profile lacks is unknown here.
 fn offered(profile: Profile, e: Source) -> Source
-    ensures { result ≡ offeredAs (sourcesOf profile) e }
+    ensures { result ≡ offered_as (sources_of profile) e }
 {
     match e {
         Source::Known(c) => {
@@ -285,7 +285,7 @@ fn taken(run: Run, e: Source) -> Run
 
 // All entries of a text.
 fn run_of(profile: Profile, s: &[u8]) -> Run
-    ensures { Ran (sourcesOf profile) s.now result }
+    ensures { Ran (sources_of profile) s.now result }
 {
     let mut run = Run {
         formed: true,
@@ -330,7 +330,7 @@ fn refused(number: u8) -> Listed
 // Reads a text of entries, of any length, for gauges of this profile. The list is never filled past its end; seven known sources hold a repeat or a
 // `0`, so that an entry without a place changes no answer.
 pub fn read_entries(profile: Profile, s: &[u8]) -> Listed
-    ensures { Lists (sourcesOf profile) s.now result }
+    ensures { Lists (sources_of profile) s.now result }
 {
     if !is_open(s) {
         return refused(10);
@@ -353,7 +353,7 @@ pub fn read_entries(profile: Profile, s: &[u8]) -> Listed
 
 // The text t, then the text of a source.
 fn with_source(t: buffer::Text, code: u8) -> buffer::Text
-    ensures { text_of result ≡ cut (text_of t ++ ((68 ∷ []) ++ sourceText code)) }
+    ensures { text_of result ≡ cut (text_of t ++ ((68 ∷ []) ++ source_text code)) }
 {
     if code == 8 {
         let entry = [b'D', b'T', b'2'];
@@ -369,7 +369,7 @@ fn with_source(t: buffer::Text, code: u8) -> buffer::Text
 
 // The text t, then the text of a list.
 pub fn with_list(t: buffer::Text, list: Sources) -> buffer::Text
-    ensures { text_of result ≡ cut (text_of t ++ listText (list_of list)) }
+    ensures { text_of result ≡ cut (text_of t ++ list_text (list_of list)) }
 {
     let n = list.size();
     let codes = list.codes;

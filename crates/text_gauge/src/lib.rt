@@ -1,19 +1,19 @@
 // The simulated text gauge: any bytes answered in lent memory, V1 and V2 from one set of settings; its bench and its stream line.
 ghost use Rattle.std.specs.Prelude.{◌≡◌, true, [], ◌∷◌, ◌≤◌, length};
-ghost use Rattle.buffer.specs.Byte.{isDigit, Printed};
+ghost use Rattle.buffer.specs.Byte.{is_digit, Printed};
 ghost use Rattle.buffer.specs.Text.{text_of};
 ghost use Rattle.buffer.specs.Answer.{Sent};
 ghost use Rattle.sources.specs.Source.{list_of, Counted};
-ghost use Rattle.settings.specs.Limits.{limitsOf};
+ghost use Rattle.settings.specs.Limits.{limits_of};
 ghost use Rattle.settings.specs.Settings.{held};
 ghost use Rattle.settings.specs.declared.Put.{Put};
-ghost use Rattle.frame_writer.specs.Written.{frameV1, frameV2};
+ghost use Rattle.frame_writer.specs.Written.{frame_v1, frame_v2};
 ghost use Rattle.frame_writer.specs.Sendable.{SendableV1, SendableV2};
 ghost use Rattle.buffer.specs.First.{◌⇒◌, first};
 ghost use Rattle.gauge_rules.specs.State.{state_of};
-ghost use Rattle.gauge_rules_v1.specs.RulesV1.{textV1, repeats};
-ghost use Rattle.line.specs.Line.{lineAnswer};
-ghost use Rattle.gauge_table.specs.Reply.{errorV2, errorV1, answerHead};
+ghost use Rattle.gauge_rules_v1.specs.RulesV1.{text_v1, repeats};
+ghost use Rattle.line.specs.Line.{line_answer};
+ghost use Rattle.gauge_table.specs.Reply.{error_v2, error_v1, answer_head};
 ghost use Rattle.text_gauge.specs.Answer.{Answers, Decides, Benches};
 ghost use Rattle.text_gauge.specs.Inner.{Fits, DecidesV2, DecidesV1};
 
@@ -47,7 +47,7 @@ pub const ROOM: usize = 64;
 // Writes the error frame that answers a V2 request.
 fn refuse_v2(out: &mut [u8], head: frames::HeadV2, number: u8) -> buffer::Written
     requires { Fits (SendableV2 head []) out.old }
-    ensures { Sent out.old (record { number = number; reply = errorV2 number head }) out.new result }
+    ensures { Sent out.old (record { number = number; reply = error_v2 number head }) out.new result }
 {
     let w = frame_writer::write_error_v2(out, head, number);
     buffer::Written {
@@ -66,8 +66,8 @@ fn reply_v2(
 ) -> buffer::Written
     requires fits { Fits (SendableV2 head []) out.old }
     requires address_value { address ≡ head.address }
-    requires access_value { (isDigit access ≡ true) × Printed (text_of text) }
-    ensures { Sent out.old (record { number = 0; reply = frameV2 (answerHead head access) (text_of text) }) out.new result }
+    requires access_value { (is_digit access ≡ true) × Printed (text_of text) }
+    ensures { Sent out.old (record { number = 0; reply = frame_v2 (answer_head head access) (text_of text) }) out.new result }
 {
     let answer = frames::HeadV2 {
         address: address as u16,
@@ -81,7 +81,7 @@ fn reply_v2(
 // Writes the error frame that answers a V1 request.
 fn refuse_v1(out: &mut [u8], head: frames::HeadV1, number: u8) -> buffer::Written
     requires { Fits (SendableV1 head []) out.old }
-    ensures { Sent out.old (record { number = number; reply = errorV1 number head }) out.new result }
+    ensures { Sent out.old (record { number = number; reply = error_v1 number head }) out.new result }
 {
     let w = frame_writer::write_error_v1(out, head, number);
     buffer::Written {
@@ -94,7 +94,7 @@ fn refuse_v1(out: &mut [u8], head: frames::HeadV1, number: u8) -> buffer::Writte
 fn reply_v1(out: &mut [u8], head: frames::HeadV1, text: buffer::Text) -> buffer::Written
     requires fits { Fits (SendableV1 head []) out.old }
     requires printed { Printed (text_of text) × (length (text_of text) ≤ 6) }
-    ensures { Sent out.old (record { number = 0; reply = frameV1 head (text_of text) }) out.new result }
+    ensures { Sent out.old (record { number = 0; reply = frame_v1 head (text_of text) }) out.new result }
 {
     frame_writer::write_text_v1(out, head, text)
 }
@@ -174,7 +174,7 @@ fn granted_v1(
 ) -> buffer::Written
     requires fits { Fits (SendableV1 head []) out.old }
     requires request_len_bound { length request.now ≤ 12 }
-    ensures { Sent out.old (record { number = 0; reply = first (repeats asks ⇒ request.now ∷ []) (frameV1 head (textV1 (state_of g) asks)) }) out.new result }
+    ensures { Sent out.old (record { number = 0; reply = first (repeats asks ⇒ request.now ∷ []) (frame_v1 head (text_v1 (state_of g) asks)) }) out.new result }
 {
     if gauge_rules_v1::repeats_request(asks) {
         return repeat(out, request);
@@ -300,7 +300,7 @@ pub fn set_bench(g: gauge_rules::Gauge, b: readings::Bench) -> BenchAnswer
 
 // Writes the stream line. The gauge stays as it is.
 pub fn stream_line(g: gauge_rules::Gauge, out: &mut [u8]) -> buffer::Written
-    ensures { Sent out.old (lineAnswer (limitsOf g.profile) (length out.old) (held g.settings) g.readings) out.new result }
+    ensures { Sent out.old (line_answer (limits_of g.profile) (length out.old) (held g.settings) g.readings) out.new result }
 {
     let profile = g.profile;
     let s = g.settings;

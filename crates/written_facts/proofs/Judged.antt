@@ -9,35 +9,35 @@ use lib.Dec.{eqb, leb, ltb, eqb-suc-zero}
 use lib.ListN.{length}
 use Rattle.buffer.specs.First.{pick}
 use Rattle.buffer.specs.Byte.{within, every, leading, starts_with}
-use Rattle.sources.specs.Source.{knownSources, among, allDiffer, standOnce, sourceText, sourceOf, listText}
+use Rattle.sources.specs.Source.{known_sources, among, all_differ, stand_once, source_text, source_of, list_text}
 use Rattle.sources.specs.declared.Source.TheVariants.{Known, Unknown}
-use Rattle.sources.specs.Entries.{isFormed, isKnown, entriesOf, entriesNumber}
+use Rattle.sources.specs.Entries.{is_formed, is_known, entries_of, entries_number}
 use Rattle.settings.specs.Limits.{ProfileLimits}
-use Rattle.forms.specs.Forms.{idleList, knownMode, streamOf, streamData}
-use Rattle.forms.specs.Judged.{verdictOf}
+use Rattle.forms.specs.Forms.{idle_list, known_mode, stream_of, stream_data}
+use Rattle.forms.specs.Judged.{verdict_of}
 use Rattle.forms_facts.specs.Sound.{Proper}
 use Rattle.forms_facts.proofs.Lemmas.Lacks.{split}
-use Rattle.forms_facts.proofs.Lemmas.Texts.{texts-of, opens-list, digit-code, source_told, list-number, none_number}
-use Rattle.request_writer.specs.Typed.{typedStream}
+use Rattle.forms_facts.proofs.Lemmas.Texts.{texts_of, opens_list, digit_code, source_told, list_number, none_number}
+use Rattle.request_writer.specs.Typed.{typed_stream}
 use Rattle.written_facts.specs.Theorems.{JudgedAlike}
 
 -- ---- codes of one digit
 
-module _ (codes : List ℕ) (here : every (among knownSources) codes ≡ true) where
+module _ (codes : List ℕ) (here : every (among known_sources) codes ≡ true) where
   -- the text of a code is of the form, and known exactly if the code is
   abbrev Told : ℕ → Type 0
-  Told c = (isFormed (sourceOf codes (sourceText c)) ≡ true) × (isKnown (sourceOf codes (sourceText c)) ≡ among codes c)
+  Told c = (is_formed (source_of codes (source_text c)) ≡ true) × (is_known (source_of codes (source_text c)) ≡ among codes c)
 
   told : (c : ℕ) → c < 10 → Told c
   unfolding pick
-  told c h = rw (source_told codes c here (digit-code c h)) (go (among codes c))
+  told c h = rw (source_told codes c here (digit_code c h)) (go (among codes c))
     where
-      go : (b : Bool) → (isFormed (pick b (Known c) Unknown) ≡ true) × (isKnown (pick b (Known c) Unknown) ≡ b)
+      go : (b : Bool) → (is_formed (pick b (Known c) Unknown) ≡ true) × (is_known (pick b (Known c) Unknown) ≡ b)
       go true = (refl, refl)
       go false = (refl, refl)
 
   abbrev AllTold : List ℕ → Type 0
-  AllTold list = (every isFormed (map (sourceOf codes) (map sourceText list)) ≡ true) × (every isKnown (map (sourceOf codes) (map sourceText list)) ≡ every (among codes) list)
+  AllTold list = (every is_formed (map (source_of codes) (map source_text list)) ≡ true) × (every is_known (map (source_of codes) (map source_text list)) ≡ every (among codes) list)
 
   all_told : (list : List ℕ) → every (λ c. ltb c 10) list ≡ true → AllTold list
   unfolding every
@@ -49,42 +49,42 @@ module _ (codes : List ℕ) (here : every (among knownSources) codes ≡ true) w
       (rw (a.0, b.0), rw (a.1, b.1))
 
   -- a source that is unknown is RANGE
-  unknown-number : (list : List ℕ) → every (λ c. ltb c 10) list ≡ true → every (among codes) list ≡ false → entriesNumber codes (listText list) ≡ 11
-  unfolding entriesNumber entriesOf pick
-  unknown-number list e k = let w = all_told list e in rw (texts-of list, opens-list list, w.0, w.1, k)
+  unknown_number : (list : List ℕ) → every (λ c. ltb c 10) list ≡ true → every (among codes) list ≡ false → entries_number codes (list_text list) ≡ 11
+  unfolding entries_number entries_of pick
+  unknown_number list e k = let w = all_told list e in rw (texts_of list, opens_list list, w.0, w.1, k)
 
 -- ---- the modes
 
-some-digit : (list : List ℕ) → eqb (leading (listText list) + 1) 0 ≡ false
-some-digit list = ne_eqb (leading (listText list) + 1) 0 (λ (e : leading (listText list) + 1 ≡ 0). omega arith)
+some_digit : (list : List ℕ) → eqb (leading (list_text list) + 1) 0 ≡ false
+some_digit list = ne_eqb (leading (list_text list) + 1) 0 (λ (e : leading (list_text list) + 1 ≡ 0). omega arith)
 
 module _ (limits : ProfileLimits) (ok : Proper limits) where
   abbrev codes : List ℕ
-  codes = limits.sourceCodes
+  codes = limits.source_codes
 
-  on_alike : (list : List ℕ) → every (λ c. ltb c 10) list ≡ true → typedStream limits true list ≡ streamData limits (52 ∷ listText list)
-  unfolding streamData streamOf typedStream leading starts_with idleList knownMode pick within
-  on_alike list e = go (every (among codes) list) (standOnce list) refl refl
+  on_alike : (list : List ℕ) → every (λ c. ltb c 10) list ≡ true → typed_stream limits true list ≡ stream_data limits (52 ∷ list_text list)
+  unfolding stream_data stream_of typed_stream leading starts_with idle_list known_mode pick within
+  on_alike list e = go (every (among codes) list) (stand_once list) refl refl
     where
-      go : (b d : Bool) → every (among codes) list ≡ b → standOnce list ≡ d → typedStream limits true list ≡ streamData limits (52 ∷ listText list)
-      go true true k l = rw (some-digit list, list-number codes ok.here list k, k, l)
-      go true false k l = rw (some-digit list, list-number codes ok.here list k, k, l)
-      go false d k l = rw (some-digit list, unknown-number codes ok.here list e k, k)
+      go : (b d : Bool) → every (among codes) list ≡ b → stand_once list ≡ d → typed_stream limits true list ≡ stream_data limits (52 ∷ list_text list)
+      go true true k l = rw (some_digit list, list_number codes ok.here list k, k, l)
+      go true false k l = rw (some_digit list, list_number codes ok.here list k, k, l)
+      go false d k l = rw (some_digit list, unknown_number codes ok.here list e k, k)
 
   -- `0` with a list is SYNTAX
-  off-alike : (list : List ℕ) → typedStream limits false list ≡ streamData limits (48 ∷ listText list)
-  unfolding streamData streamOf typedStream leading starts_with idleList knownMode pick within listText every allDiffer among
-  off-alike [] = rw (none_number codes)
-  off-alike (c ∷ list) = go (eqb (entriesNumber codes (listText (c ∷ list))) 10) refl
+  off_alike : (list : List ℕ) → typed_stream limits false list ≡ stream_data limits (48 ∷ list_text list)
+  unfolding stream_data stream_of typed_stream leading starts_with idle_list known_mode pick within list_text every all_differ among
+  off_alike [] = rw (none_number codes)
+  off_alike (c ∷ list) = go (eqb (entries_number codes (list_text (c ∷ list))) 10) refl
     where
-      two : leb 2 (length (48 ∷ listText (c ∷ list))) ≡ true
-      two = le-leb 2 (length (48 ∷ listText (c ∷ list))) (omega arith)
+      two : leb 2 (length (48 ∷ list_text (c ∷ list))) ≡ true
+      two = le-leb 2 (length (48 ∷ list_text (c ∷ list))) (omega arith)
 
-      go : (b : Bool) → eqb (entriesNumber codes (listText (c ∷ list))) 10 ≡ b → typedStream limits false (c ∷ list) ≡ streamData limits (48 ∷ listText (c ∷ list))
-      go true e = rw (eqb-suc-zero, some-digit (c ∷ list), e)
-      go false e = rw (eqb-suc-zero, some-digit (c ∷ list), e, two)
+      go : (b : Bool) → eqb (entries_number codes (list_text (c ∷ list))) 10 ≡ b → typed_stream limits false (c ∷ list) ≡ stream_data limits (48 ∷ list_text (c ∷ list))
+      go true e = rw (eqb-suc-zero, some_digit (c ∷ list), e)
+      go false e = rw (eqb-suc-zero, some_digit (c ∷ list), e, two)
 
-pub judged-alike : JudgedAlike
-unfolding verdictOf
-judged-alike limits ok true list e = on_alike limits ok list e
-judged-alike limits ok false list e = off-alike limits ok list
+pub judged_alike : JudgedAlike
+unfolding verdict_of
+judged_alike limits ok true list e = on_alike limits ok list e
+judged_alike limits ok false list e = off_alike limits ok list

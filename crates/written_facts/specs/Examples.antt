@@ -1,14 +1,14 @@
 -- Document 01, "The master's side", and document 02, "Hot cathode gauges": worked cases of the text writer, what it answers and writes.
 use Rattle.std.specs.Prelude.{Bool, true, false, ◌&&◌, List, [], ◌∷◌, ◌++◌, ℕ, eqb}
 use Prim.Native.String.{String}
-use Rattle.buffer.specs.Byte.{sameText}
+use Rattle.buffer.specs.Byte.{same_text}
 use Rattle.buffer.specs.Quoted.{bytes}
 use Rattle.buffer.specs.Answer.{Answer}
 use Rattle.decimal.specs.declared.Number.{Number}
 use Rattle.sources.specs.declared.Sources.{Sources}
 use Rattle.sources.specs.declared.Profile.{Profile}
 use Rattle.sources.specs.declared.Profile.TheVariants.{Standard, Vsh, Vsm}
-use Rattle.settings.specs.Limits.{limitsOf}
+use Rattle.settings.specs.Limits.{limits_of}
 use Rattle.settings.specs.declared.Transition.TheVariants.{Direct, Between}
 use Rattle.settings.specs.declared.Key.TheVariants.{SM}
 use Rattle.settings.specs.declared.Setting.TheVariants.{Address, Factor, Control, Cathode, Switch, Stream}
@@ -17,7 +17,7 @@ use Rattle.requests.specs.declared.RequestV2.{RequestV2}
 use Rattle.requests.specs.declared.RequestV2.TheVariants.{Read, Restore, Set}
 use Rattle.requests.specs.declared.RequestV1.{RequestV1}
 use Rattle.requests.specs.declared.RequestV1.TheVariants.{Measure, Unlock, SetFactor}
-use Rattle.request_writer.specs.Written.{requestWrittenV2, requestWrittenV1}
+use Rattle.request_writer.specs.Written.{request_written_v2, request_written_v1}
 
 -- a case: the writer's answer, and what it should be
 pub record Case : Type 0 where
@@ -42,34 +42,34 @@ abbrev pub none : Sources
 none = list 0 (0 ∷ 0 ∷ 0 ∷ 0 ∷ 0 ∷ 0 ∷ 0 ∷ [])
 
 -- a V2 request to address 1, with 109 bytes lent; the writer is told the profile
-abbrev pub asksOn : Profile → RequestV2 → Answer
-asksOn p r = requestWrittenV2 (limitsOf p) 109 1 r none
+abbrev pub asks_on : Profile → RequestV2 → Answer
+asks_on p r = request_written_v2 (limits_of p) 109 1 r none
 
 abbrev pub asks : RequestV2 → Answer
-asks r = asksOn Standard r
+asks r = asks_on Standard r
 
-abbrev pub streamsOn : Profile → Bool → ℕ → List ℕ → Answer
-streamsOn p on n codes = requestWrittenV2 (limitsOf p) 109 1 (Set (Stream on)) (list n codes)
+abbrev pub streams_on : Profile → Bool → ℕ → List ℕ → Answer
+streams_on p on n codes = request_written_v2 (limits_of p) 109 1 (Set (Stream on)) (list n codes)
 
 abbrev pub streams : Bool → ℕ → List ℕ → Answer
-streams on n codes = streamsOn Standard on n codes
+streams on n codes = streams_on Standard on n codes
 
 abbrev pub sevens : List ℕ
 sevens = 7 ∷ 7 ∷ 7 ∷ 7 ∷ 7 ∷ 7 ∷ 7 ∷ []
 
-abbrev pub asksV1 : RequestV1 → Answer
-asksV1 r = requestWrittenV1 109 1 r
+abbrev pub asks_v1 : RequestV1 → Answer
+asks_v1 r = request_written_v1 109 1 r
 
 abbrev pub cases : List Case
 cases =
     -- 109 bytes must be lent, for V1 too
-    refused (requestWrittenV2 (limitsOf Standard) 108 1 (Read MV) none) 1
+    refused (request_written_v2 (limits_of Standard) 108 1 (Read MV) none) 1
     ∷ sends (asks (Read MV)) "0010MV00D"
-    ∷ refused (requestWrittenV1 108 1 Measure) 1
+    ∷ refused (request_written_v1 108 1 Measure) 1
     -- the address is 1 to 999, checked before the access
-    ∷ refused (requestWrittenV2 (limitsOf Standard) 109 0 (Read MV) none) 4
-    ∷ sends (requestWrittenV2 (limitsOf Standard) 109 999 (Read MV) none) "9990MV00^"
-    ∷ refused (requestWrittenV2 (limitsOf Standard) 109 1000 (Restore (Of SM)) none) 4
+    ∷ refused (request_written_v2 (limits_of Standard) 109 0 (Read MV) none) 4
+    ∷ sends (request_written_v2 (limits_of Standard) 109 999 (Read MV) none) "9990MV00^"
+    ∷ refused (request_written_v2 (limits_of Standard) 109 1000 (Restore (Of SM)) none) 4
     ∷ refused (asks (Restore (Of SM))) 9
     ∷ refused (asks (Restore MV)) 9
     -- another digit, and no digit
@@ -111,27 +111,27 @@ cases =
     ∷ sends (streams true 2 (7 ∷ 8 ∷ 0 ∷ 0 ∷ 0 ∷ 0 ∷ 0 ∷ [])) "0012SM064D7DT2B"
     ∷ sends (streams true 6 (1 ∷ 2 ∷ 6 ∷ 7 ∷ 8 ∷ 9 ∷ 0 ∷ [])) "0012SM154D1D2D6D7DT2DT6u"
     -- the hot cathode gauges: no form of two numbers, whatever they are, and limits of their own
-    ∷ refused (asksOn Vsh (Set (Switch (Between (number 5 14) (number 15 14))))) 10
-    ∷ refused (asksOn Vsh (Set (Switch (Between (number 1 11) (number 2 11))))) 10
-    ∷ refused (asksOn Vsh (Set (Switch (Direct (number 1 14))))) 11
-    ∷ sends (asksOn Vsh (Set (Switch (Direct (number 1 11))))) "0012ST05D1e-3I"
-    ∷ refused (asksOn Vsh (Set (Switch (Direct (number 1234567 5))))) 10
-    ∷ sends (asksOn Vsh (Set (Switch (Direct (number 1 12))))) "0012ST05D1e-2H"
-    ∷ refused (asksOn Vsm (Set (Switch (Direct (number 1 12))))) 11
-    ∷ sends (asksOn Vsm (Set (Switch (Direct (number 2 11))))) "0012ST05D2e-3J"
-    ∷ refused (asksOn Standard (Set (Switch (Direct (number 1 11))))) 11
+    ∷ refused (asks_on Vsh (Set (Switch (Between (number 5 14) (number 15 14))))) 10
+    ∷ refused (asks_on Vsh (Set (Switch (Between (number 1 11) (number 2 11))))) 10
+    ∷ refused (asks_on Vsh (Set (Switch (Direct (number 1 14))))) 11
+    ∷ sends (asks_on Vsh (Set (Switch (Direct (number 1 11))))) "0012ST05D1e-3I"
+    ∷ refused (asks_on Vsh (Set (Switch (Direct (number 1234567 5))))) 10
+    ∷ sends (asks_on Vsh (Set (Switch (Direct (number 1 12))))) "0012ST05D1e-2H"
+    ∷ refused (asks_on Vsm (Set (Switch (Direct (number 1 12))))) 11
+    ∷ sends (asks_on Vsm (Set (Switch (Direct (number 2 11))))) "0012ST05D2e-3J"
+    ∷ refused (asks_on Standard (Set (Switch (Direct (number 1 11))))) 11
     -- and sources of their own
-    ∷ sends (streamsOn Vsh true 2 (1 ∷ 8 ∷ 0 ∷ 0 ∷ 0 ∷ 0 ∷ 0 ∷ [])) "0012SM064D1DT2|"
-    ∷ refused (streamsOn Vsh true 1 (7 ∷ 0 ∷ 0 ∷ 0 ∷ 0 ∷ 0 ∷ 0 ∷ [])) 11
-    ∷ refused (streamsOn Vsh true 2 (0 ∷ 7 ∷ 0 ∷ 0 ∷ 0 ∷ 0 ∷ 0 ∷ [])) 11
-    ∷ refused (streamsOn Vsh true 2 (1 ∷ 1 ∷ 0 ∷ 0 ∷ 0 ∷ 0 ∷ 0 ∷ [])) 12
-    ∷ refused (streamsOn Vsm true 1 (2 ∷ 0 ∷ 0 ∷ 0 ∷ 0 ∷ 0 ∷ 0 ∷ [])) 11
+    ∷ sends (streams_on Vsh true 2 (1 ∷ 8 ∷ 0 ∷ 0 ∷ 0 ∷ 0 ∷ 0 ∷ [])) "0012SM064D1DT2|"
+    ∷ refused (streams_on Vsh true 1 (7 ∷ 0 ∷ 0 ∷ 0 ∷ 0 ∷ 0 ∷ 0 ∷ [])) 11
+    ∷ refused (streams_on Vsh true 2 (0 ∷ 7 ∷ 0 ∷ 0 ∷ 0 ∷ 0 ∷ 0 ∷ [])) 11
+    ∷ refused (streams_on Vsh true 2 (1 ∷ 1 ∷ 0 ∷ 0 ∷ 0 ∷ 0 ∷ 0 ∷ [])) 12
+    ∷ refused (streams_on Vsm true 1 (2 ∷ 0 ∷ 0 ∷ 0 ∷ 0 ∷ 0 ∷ 0 ∷ [])) 11
     -- V1: no lock on this side
-    ∷ refused (asksV1 (SetFactor 900)) 11
-    ∷ refused (asksV1 (SetFactor 1000000)) 10
-    ∷ sends (asksV1 (SetFactor 100)) "001c000100U"
-    ∷ sends (asksV1 Unlock) "001c1e"
+    ∷ refused (asks_v1 (SetFactor 900)) 11
+    ∷ refused (asks_v1 (SetFactor 1000000)) 10
+    ∷ sends (asks_v1 (SetFactor 100)) "001c000100U"
+    ∷ sends (asks_v1 Unlock) "001c1e"
     ∷ []
 
 abbrev pub right : Case → Bool
-right c = eqb c.answer.number c.number && sameText c.answer.reply c.text
+right c = eqb c.answer.number c.number && same_text c.answer.reply c.text

@@ -1,6 +1,6 @@
 -- Document 01, "The master's side": "Numbers are the same by value, and the list counts for an SM write only."
 use Rattle.std.specs.Prelude.{◌≡◌, true, List, ℕ}
-use Rattle.decimal.specs.Number.{sameValue}
+use Rattle.decimal.specs.Number.{same_value}
 use Rattle.decimal.specs.declared.Number.{Number}
 use Rattle.settings.specs.declared.Transition.{Transition}
 use Rattle.settings.specs.declared.Transition.TheVariants.{Direct, Between}
@@ -10,7 +10,7 @@ use Rattle.requests.specs.declared.RequestV2.{RequestV2}
 use Rattle.requests.specs.declared.RequestV2.TheVariants.{Read, Restore, Set}
 
 abbrev pub SameNumber : Number → Number → Type 0
-SameNumber a b = sameValue a b ≡ true
+SameNumber a b = same_value a b ≡ true
 
 abbrev pub SameTransition : Transition → Transition → Type 0
 SameTransition (Direct a) (Direct b) = SameNumber a b

@@ -5,9 +5,9 @@ use Rattle.bench_words.specs.Words.{number_at}
 use Rattle.bench_words.proofs.number_at.Statement.{statement}
 use Rattle.bench_words.proofs.number_at.Tie as tie
 
-pub number-at-spec : {M : Type 1} → statement M
+pub number_at_spec : {M : Type 1} → statement M
 unfolding number_at
-number-at-spec =
+number_at_spec =
     tie.close
     (tie.spec
     (λ c. search rules)

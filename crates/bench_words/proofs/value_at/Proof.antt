@@ -17,9 +17,9 @@ returns-4 c =
     (past _ _ _ _ (flag _ _ _ c3.before.is-error-text.ensures c3.if3.false)
     (rw (← c.before.read-decimal.ensures) c.number_at.ensures)))
 
-pub value-at-spec : {M : Type 1} → statement M
+pub value_at_spec : {M : Type 1} → statement M
 unfolding value_at
-value-at-spec =
+value_at_spec =
     tie.close
     (tie.spec
     (λ c. search rules)

@@ -7,7 +7,7 @@ use borrow.Author.Rules.{rules}
 use borrow.Author.Tests.{not-true, not-false}
 use lib.ListN.{length, drop, drop_of_length-le, get_or}
 use Rattle.buffer.specs.Byte.{within, every}
-use Rattle.buffer.proofs.Laws.{drop-step}
+use Rattle.buffer.proofs.Laws.{drop_step}
 use Rattle.buffer.proofs.all_within.Statement.{statement}
 use Rattle.buffer.proofs.all_within.Tie as tie
 
@@ -24,7 +24,7 @@ returns c =
     let s = c.before.before.before.before.before.before.args.s.now in
     let a = c.before.before.before.before.before.before.args in
     let out : within a.low a.high (get_or s l.i 0) ≡ false = sym c.before.is_Within.ensures ∙ not-true _ c.if1.true in
-    rw (drop-step s l.i (omega arith), out) at l.invariant.1
+    rw (drop_step s l.i (omega arith), out) at l.invariant.1
 
 loop-again : tie.Need-loop-preserved invariant-loop decreases-loop
 unfolding every
@@ -33,7 +33,7 @@ loop-again c =
     let s = c.before.before.before.before.before.before.args.s.now in
     let a = c.before.before.before.before.before.before.args in
     let in' : within a.low a.high (get_or s l.i 0) ≡ true = sym c.before.is_Within.ensures ∙ not-false _ c.if1.false in
-    (omega arith, rw (drop-step s l.i (omega arith), in') at l.invariant.1)
+    (omega arith, rw (drop_step s l.i (omega arith), in') at l.invariant.1)
 
 returns-2 : tie.Need-returns-2 invariant-loop decreases-loop
 unfolding every
@@ -42,8 +42,8 @@ returns-2 c =
     let s = c.before.before.before.args.s.now in
     rw (drop_of_length-le s c.loop-test.false) at l.invariant.1
 
-pub all-within-spec : {M : Type 1} → statement M
-all-within-spec =
+pub all_within_spec : {M : Type 1} → statement M
+all_within_spec =
     tie.close
     (tie.spec
     invariant-loop

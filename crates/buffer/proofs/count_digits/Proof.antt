@@ -6,7 +6,7 @@ use native.Mathlib.Omega.{arith}
 use borrow.Author.Rules.{rules}
 use borrow.Author.Tests.{not-true, not-false}
 use lib.ListN.{length, drop, get_or}
-use Rattle.buffer.specs.Byte.{isDigit, leading}
+use Rattle.buffer.specs.Byte.{is_digit, leading}
 use Rattle.buffer.proofs.Laws.{leading_step, leading_end}
 use Rattle.buffer.proofs.count_digits.Statement.{statement}
 use Rattle.buffer.proofs.count_digits.Tie as tie
@@ -21,7 +21,7 @@ returns : tie.Need-returns invariant-loop decreases-loop
 returns c =
     let l = c.before.before.before.before.loop in
     let s = c.before.before.before.before.before.before.args.s.now in
-    let none : isDigit (get_or s l.i 0) ≡ false = sym c.before.is_Within.ensures ∙ not-true _ c.if1.true in
+    let none : is_digit (get_or s l.i 0) ≡ false = sym c.before.is_Within.ensures ∙ not-true _ c.if1.true in
     let e = rw none at (leading_step s l.i (omega arith)) in
     omega (arith, e)
 
@@ -29,12 +29,12 @@ loop-again : tie.Need-loop-preserved invariant-loop decreases-loop
 loop-again c =
     let l = c.before.before.before.before.loop in
     let s = c.before.before.before.before.before.before.args.s.now in
-    let one : isDigit (get_or s l.i 0) ≡ true = sym c.before.is_Within.ensures ∙ not-false _ c.if1.false in
+    let one : is_digit (get_or s l.i 0) ≡ true = sym c.before.is_Within.ensures ∙ not-false _ c.if1.false in
     let e = rw one at (leading_step s l.i (omega arith)) in
     (omega arith, omega (arith, e))
 
-pub count-digits-spec : {M : Type 1} → statement M
-count-digits-spec =
+pub count_digits_spec : {M : Type 1} → statement M
+count_digits_spec =
     tie.close
     (tie.spec
     invariant-loop

@@ -6,13 +6,13 @@ use native.Mathlib.Omega.{arith}
 use borrow.Author.Tests.{eq-eqb, ne_eqb}
 use lib.Dec.{eqb}
 use lib.ListN.{length, drop, drop_of_length-le, get_or}
-use Rattle.buffer.specs.Byte.{sameText}
-use Rattle.buffer.proofs.Laws.{same-lengths, same_step}
+use Rattle.buffer.specs.Byte.{same_text}
+use Rattle.buffer.proofs.Laws.{same_lengths, same_step}
 use Rattle.buffer.proofs.is_same.Statement.{statement}
 use Rattle.buffer.proofs.is_same.Tie as tie
 
 abbrev invariant-loop : tie.invariant-loop
-invariant-loop s t i₀ i = (i ≤ length s) × (sameText (drop i s) (drop i t) ≡ sameText s t)
+invariant-loop s t i₀ i = (i ≤ length s) × (same_text (drop i s) (drop i t) ≡ same_text s t)
 
 abbrev decreases-loop : tie.decreases-loop
 decreases-loop s t i₀ i = length s - i
@@ -34,19 +34,19 @@ loop-again c =
     (omega arith, rw (e, agree, and-true) at l.invariant.1)
 
 returns-3 : tie.Need-returns-3 invariant-loop decreases-loop
-unfolding sameText
+unfolding same_text
 returns-3 c =
     let l = c.before.loop in
     let a = c.before.before.before.args in
     rw (drop_of_length-le a.s.now {i = l.i} (omega arith), drop_of_length-le a.t.now {i = l.i} (omega arith)) at l.invariant.1
 
-pub is-same-spec : {M : Type 1} → statement M
-is-same-spec =
+pub is_same_spec : {M : Type 1} → statement M
+is_same_spec =
     tie.close
     (tie.spec
     invariant-loop
     decreases-loop
-    (λ c. sym (same-lengths c.before.args.s.now c.before.args.t.now c.if1.true))
+    (λ c. sym (same_lengths c.before.args.s.now c.before.args.t.now c.if1.true))
     (λ c. (omega arith, refl))
     (λ c. omega arith)
     (λ c. omega arith)

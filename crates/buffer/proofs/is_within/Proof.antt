@@ -4,6 +4,6 @@ use Rattle.buffer.proofs.Rules.{tests}
 use Rattle.buffer.proofs.is_within.Statement.{statement}
 use Rattle.buffer.proofs.is_within.Tie as tie
 
-pub is-within-spec : {M : Type 1} → statement M
+pub is_within_spec : {M : Type 1} → statement M
 unfolding within
-is-within-spec = tie.close (tie.spec (λ c. search tests) (λ c. search tests))
+is_within_spec = tie.close (tie.spec (λ c. search tests) (λ c. search tests))

@@ -26,8 +26,8 @@ three c = let e = c.before.before.before.before in pass _ e.before.before.before
 loop-again : tie.Need-loop-preserved invariant-loop decreases-loop
 loop-again c = pass _ c.before.before.before.before.before.before.before.before.before.before.args.s.now _ _ (omega arith) c.if4.false (omega arith) (three c.before.before)
 
-pub passed-by-fours-spec : {M : Type 1} → statement M
-passed-by-fours-spec =
+pub passed_by_fours_spec : {M : Type 1} → statement M
+passed_by_fours_spec =
     tie.close
     (tie.spec
     invariant-loop

@@ -5,7 +5,7 @@ use native.Mathlib.Nat.{add-zero, add_assoc}
 use native.Mathlib.Omega.{arith}
 use lib.ListN.{length, drop, length-set, drop_of_length-le}
 use lib.Seq.{sets}
-use Rattle.buffer.proofs.Laws.{sets-step, sets-out}
+use Rattle.buffer.proofs.Laws.{sets_step, sets_out}
 use Rattle.buffer.proofs.put.Statement.{statement}
 use Rattle.buffer.proofs.put.Tie as tie
 
@@ -23,7 +23,7 @@ returns : tie.Need-returns invariant-loop decreases-loop
 returns c =
     let l = c.before.before.loop in
     let a = c.before.before.before.args in
-    record { memory = sym (sets-out l.out (a.at + l.i) (drop l.i a.src.now) (omega arith)) ∙ l.invariant.3 }
+    record { memory = sym (sets_out l.out (a.at + l.i) (drop l.i a.src.now) (omega arith)) ∙ l.invariant.3 }
 
 loop-again : tie.Need-loop-preserved invariant-loop decreases-loop
 loop-again c =
@@ -32,7 +32,7 @@ loop-again c =
       omega arith,
       simp length-set (omega arith),
       simp length-set (omega arith),
-      rw (← (add_assoc a.at l.i 1)) (sym (sets-step l.out a.src.now (a.at + l.i) l.i (omega arith)) ∙ l.invariant.3),
+      rw (← (add_assoc a.at l.i 1)) (sym (sets_step l.out a.src.now (a.at + l.i) l.i (omega arith)) ∙ l.invariant.3),
     )
 
 returns-2 : tie.Need-returns-2 invariant-loop decreases-loop

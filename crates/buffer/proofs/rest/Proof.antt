@@ -3,12 +3,12 @@ use mathlib.Core.Path.{sym}
 use native.Mathlib.Omega.{arith}
 use borrow.Author.Rules.{rules}
 use lib.ListN.{drop_of_length-le}
-use Rattle.buffer.proofs.Laws.{part-rest}
+use Rattle.buffer.proofs.Laws.{part_rest}
 use Rattle.buffer.proofs.rest.Statement.{statement}
 use Rattle.buffer.proofs.rest.Tie as tie
 
-pub rest-spec : {M : Type 1} → statement M
-rest-spec =
+pub rest_spec : {M : Type 1} → statement M
+rest_spec =
     tie.close
     (tie.spec
     (λ c. search rules)
@@ -16,4 +16,4 @@ rest-spec =
     (λ c. search rules)
     (λ c. search rules)
     (λ c. search rules)
-    (λ c. part-rest c.before.before.args.s.now c.before.before.args.a))
+    (λ c. part_rest c.before.before.args.s.now c.before.before.args.a))

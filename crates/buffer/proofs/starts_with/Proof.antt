@@ -11,6 +11,6 @@ returns : tie.Need-returns
 unfolding starts_with
 returns c = rw (get_or-eq_default c.before.args.s.now 0 {n = 0} (omega arith))
 
-pub starts-with-spec : {M : Type 1} → statement M
+pub starts_with_spec : {M : Type 1} → statement M
 unfolding starts_with
-starts-with-spec = tie.close (tie.spec returns (λ c. search rules) (λ c. search rules))
+starts_with_spec = tie.close (tie.spec returns (λ c. search rules) (λ c. search rules))

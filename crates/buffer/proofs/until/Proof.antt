@@ -7,7 +7,7 @@ use borrow.Author.Rules.{rules}
 use borrow.Author.Tests.{eq-eqb}
 use lib.Dec.{eqb}
 use lib.ListN.{length, get_or}
-use Rattle.buffer.proofs.Laws.{Passed, pass, until-step, until_end}
+use Rattle.buffer.proofs.Laws.{Passed, pass, until_step, until_end}
 use Rattle.buffer.proofs.until.Statement.{statement}
 use Rattle.buffer.proofs.until.Tie as tie
 
@@ -22,11 +22,11 @@ returns c =
     let l = c.before.before.before.loop in
     let a = c.before.before.before.before.before.before.args in
     let found : eqb (get_or a.s.now l.i 0) a.b ≡ true = eq-eqb _ _ c.if1.true in
-    let e = rw found at (until-step a.b a.s.now l.i (omega arith)) in
+    let e = rw found at (until_step a.b a.s.now l.i (omega arith)) in
     omega (arith, e)
 
-pub until-spec : {M : Type 1} → statement M
-until-spec =
+pub until_spec : {M : Type 1} → statement M
+until_spec =
     tie.close
     (tie.spec
     invariant-loop

@@ -18,8 +18,8 @@ returns-2 c =
       unnamed = λ e. absurd (true≢false (sym low ∙ e));
     }
 
-pub perrezkun-play-on-spec : {M : Type 1} → statement M
-perrezkun-play-on-spec =
+pub perrezkun_play_on_spec : {M : Type 1} → statement M
+perrezkun_play_on_spec =
     tie.close
     (tie.spec
     returns

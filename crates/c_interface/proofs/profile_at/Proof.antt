@@ -1,13 +1,13 @@
 -- `c_interface::profile_at` meets its contract.
 use borrow.Author.Tests.{ne_eqb}
 use Rattle.buffer.specs.First.{pick}
-use Rattle.c_interface.specs.Boundary.{profileAt}
+use Rattle.c_interface.specs.Boundary.{profile_at}
 use Rattle.c_interface.proofs.profile_at.Statement.{statement}
 use Rattle.c_interface.proofs.profile_at.Tie as tie
 
-pub profile-at-spec : {M : Type 1} → statement M
-unfolding profileAt pick
-profile-at-spec =
+pub profile_at_spec : {M : Type 1} → statement M
+unfolding profile_at pick
+profile_at_spec =
     tie.close
     (tie.spec
     (λ c. rw c.match.keys1)

@@ -4,16 +4,16 @@ use borrow.Author.Rules.{rules}
 use Rattle.buffer.proofs.Rules.{rules}
 use borrow.Author.Tests.{ne_eqb, not-true, not-false}
 use Rattle.buffer.specs.First.{pick}
-use Rattle.decimal.specs.Form.{exponentOf}
+use Rattle.decimal.specs.Form.{exponent_of}
 use Rattle.decimal.proofs.exponent.Statement.{statement}
 use Rattle.decimal.proofs.exponent.Tie as tie
 
 returns-2 : tie.Need-returns-2
-unfolding exponentOf pick
+unfolding exponent_of pick
 returns-2 c = rw (ne_eqb _ _ c.before.before.if1.left, sym c.before.is-marked.ensures ∙ not-true _ c.if2.taken)
 
 returns-3 : tie.Need-returns-3
-unfolding exponentOf pick
+unfolding exponent_of pick
 returns-3 c =
     rw (
       ← c.before.before.before.before.rest.ensures,
@@ -24,7 +24,7 @@ returns-3 c =
     ) c.power.ensures
 
 returns-4 : tie.Need-returns-4
-unfolding exponentOf pick
+unfolding exponent_of pick
 returns-4 c =
     rw (
       ← c.before.before.before.rest.ensures,
@@ -33,9 +33,9 @@ returns-4 c =
       sym c.before.before.starts_with.ensures ∙ c.before.if3.left,
     ) c.power2.ensures
 
-pub exponent-spec : {M : Type 1} → statement M
-unfolding exponentOf
-exponent-spec =
+pub exponent_spec : {M : Type 1} → statement M
+unfolding exponent_of
+exponent_spec =
     tie.close
     (tie.spec
     (λ c. search rules)

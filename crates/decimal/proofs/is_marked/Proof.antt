@@ -4,8 +4,8 @@ use borrow.Author.Rules.{rules}
 use Rattle.decimal.proofs.is_marked.Statement.{statement}
 use Rattle.decimal.proofs.is_marked.Tie as tie
 
-pub is-marked-spec : {M : Type 1} → statement M
-is-marked-spec =
+pub is_marked_spec : {M : Type 1} → statement M
+is_marked_spec =
     tie.close
     (tie.spec
     (λ c κs. search rules)

@@ -2,13 +2,13 @@
 use mathlib.Core.Path.{sym, ◌∙◌}
 use borrow.Author.Rules.{rules}
 use Rattle.buffer.specs.First.{pick}
-use Rattle.decimal.specs.Form.{scanOf}
+use Rattle.decimal.specs.Form.{scan_of}
 use Rattle.decimal.proofs.read_exact.Statement.{statement}
 use Rattle.decimal.proofs.read_exact.Tie as tie
 
-pub read-exact-spec : {M : Type 1} → statement M
-unfolding scanOf pick
-read-exact-spec =
+pub read_exact_spec : {M : Type 1} → statement M
+unfolding scan_of pick
+read_exact_spec =
     tie.close
     (tie.spec
     (λ c κs. search rules)

@@ -3,15 +3,15 @@ use mathlib.Core.Path.{◌≡◌, refl, sym}
 use borrow.Author.Tests.{lt-ltb}
 use native.Mathlib.Omega.{arith}
 use borrow.Author.Rules.{rules}
-use Rattle.decimal.proofs.Sizes.{size_is, size-one}
+use Rattle.decimal.proofs.Sizes.{size_is, size_one}
 use Rattle.decimal.proofs.size_of.Statement.{statement}
 use Rattle.decimal.proofs.size_of.Tie as tie
 
-pub size-of-spec : {M : Type 1} → statement M
-size-of-spec =
+pub size_of_spec : {M : Type 1} → statement M
+size_of_spec =
     tie.close
     (tie.spec
-    (λ c. sym (size-one _ c.if1.true))
+    (λ c. sym (size_one _ c.if1.true))
     (λ c. sym (size_is _ 1 (omega arith) (omega arith)))
     (λ c. sym (size_is _ 2 (omega arith) (omega arith)))
     (λ c. sym (size_is _ 3 (omega arith) (omega arith)))

@@ -4,15 +4,15 @@ use borrow.Author.Rules.{rules}
 use Rattle.buffer.proofs.Rules.{rules}
 use borrow.Author.Tests.{le-ltb, lt-leb}
 use Rattle.buffer.specs.First.{pick}
-use Rattle.decimal.specs.Form.{unsignedOf}
+use Rattle.decimal.specs.Form.{unsigned_of}
 use Rattle.decimal.proofs.unsigned.Statement.{statement}
 use Rattle.decimal.proofs.unsigned.Tie as tie
 
 returns-3 : tie.Need-returns-3
-unfolding unsignedOf pick
+unfolding unsigned_of pick
 returns-3 c =
     rw (
-      ← c.before.before.before.before.before.before.before.before.count-digits.ensures,
+      ← c.before.before.before.before.before.before.before.before.count_digits.ensures,
       ← c.before.before.before.before.before.spelled.ensures.0,
       ← c.before.before.before.before.rest.ensures,
       ← c.before.rest2.ensures,
@@ -22,10 +22,10 @@ returns-3 c =
     ) c.fraction.ensures
 
 returns-4 : tie.Need-returns-4
-unfolding unsignedOf pick
+unfolding unsigned_of pick
 returns-4 c =
     rw (
-      ← c.before.before.before.before.before.before.before.count-digits.ensures,
+      ← c.before.before.before.before.before.before.before.count_digits.ensures,
       ← c.before.before.before.before.spelled.ensures.0,
       ← c.before.before.before.rest.ensures,
       le-ltb _ _ c.before.before.before.before.before.before.if1.left,
@@ -33,14 +33,14 @@ returns-4 c =
       sym c.before.before.starts_with.ensures ∙ c.before.if3.left,
     ) c.exponent.ensures
 
-pub unsigned-spec : {M : Type 1} → statement M
-unfolding unsignedOf
-unsigned-spec =
+pub unsigned_spec : {M : Type 1} → statement M
+unfolding unsigned_of
+unsigned_spec =
     tie.close
     (tie.spec
     (λ c κs. search rules)
-    (λ c. rw (← c.before.count-digits.ensures) (search rules depth 20))
-    (λ c. rw (← c.before.before.count-digits.ensures) (search rules depth 20))
+    (λ c. rw (← c.before.count_digits.ensures) (search rules depth 20))
+    (λ c. rw (← c.before.before.count_digits.ensures) (search rules depth 20))
     (λ c κs. search rules)
     (λ c κs. search rules)
     (λ c κs. search rules)

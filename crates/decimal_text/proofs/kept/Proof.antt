@@ -4,8 +4,8 @@ use Rattle.decimal_text.proofs.Laws.{kept0, kept1, kept2, kept3, kept4, kept5}
 use Rattle.decimal_text.proofs.kept.Statement.{statement}
 use Rattle.decimal_text.proofs.kept.Tie as tie
 
-pub kept-spec : {M : Type 1} → statement M
-kept-spec =
+pub kept_spec : {M : Type 1} → statement M
+kept_spec =
     tie.close
     (tie.spec
     (λ c. sym (kept0 c.before.args.m c.if1.true))

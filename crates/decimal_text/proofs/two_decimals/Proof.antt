@@ -3,24 +3,24 @@ use mathlib.Core.Path.{◌≡◌, ◌∙◌}
 use borrow.Author.Rules.{rules}
 use native.Mathlib.Omega.{arith}
 use mathlib.Core.List.{append_assoc}
-use Rattle.buffer.proofs.Laws.{cut-cut, cut_fits}
+use Rattle.buffer.proofs.Laws.{cut_cut, cut_fits}
 use Rattle.buffer.specs.Text.{text_of, cut}
-use Rattle.decimal_text.proofs.Laws.{two-le}
-use Rattle.decimal_text.specs.Written.{twoDecimals}
+use Rattle.decimal_text.proofs.Laws.{two_le}
+use Rattle.decimal_text.specs.Written.{two_decimals}
 use Rattle.decimal_text.proofs.two_decimals.Statement.{statement}
 use Rattle.decimal_text.proofs.two_decimals.Tie as tie
 
 returns : tie.Need-returns
-unfolding twoDecimals
+unfolding two_decimals
 returns c =
     let a = c.before.before.before.before.before.args in
-    let t = twoDecimals a.negative a.hundredths in
+    let t = two_decimals a.negative a.hundredths in
     let cutted : text_of c.push3.result ≡ cut t =
-    rw (c.push3.ensures, c.before.push2.ensures, c.before.before.push.ensures, c.before.before.before.with-whole.ensures, c.before.before.before.before.signed.ensures) (simp (cut-cut, append_assoc)) in
-    cutted ∙ cut_fits t (omega (arith, two-le a.negative a.hundredths))
+    rw (c.push3.ensures, c.before.push2.ensures, c.before.before.push.ensures, c.before.before.before.with-whole.ensures, c.before.before.before.before.signed.ensures) (simp (cut_cut, append_assoc)) in
+    cutted ∙ cut_fits t (omega (arith, two_le a.negative a.hundredths))
 
-pub two-decimals-spec : {M : Type 1} → statement M
-two-decimals-spec =
+pub two_decimals_spec : {M : Type 1} → statement M
+two_decimals_spec =
     tie.close
     (tie.spec
     (λ c κs. search rules)

@@ -5,8 +5,8 @@ use mathlib.Core.List.{append_assoc}
 use borrow.Author.Tests.{eq-eqb, ne_eqb}
 use Rattle.buffer.specs.First.{pick}
 use Rattle.buffer.specs.Text.{text_of, cut}
-use Rattle.buffer.proofs.Laws.{cut-cut, cut_fits}
-use Rattle.decimal_text.proofs.Laws.{written-fits}
+use Rattle.buffer.proofs.Laws.{cut_cut, cut_fits}
+use Rattle.decimal_text.proofs.Laws.{written_fits}
 use Rattle.decimal_text.specs.Written.{written_of}
 use Rattle.decimal_text.proofs.written.Statement.{statement}
 use Rattle.decimal_text.proofs.written.Tie as tie
@@ -20,11 +20,11 @@ unfolding written_of pick
 returns-2 c =
     let n = c.before.before.before.before.before.args.n in
     let cutted : text_of c.with-exponent.result ≡ cut (written_of n) =
-    rw (ne_eqb _ _ c.before.before.before.before.if1.false, c.with-exponent.ensures, c.before.with-fraction.ensures, c.before.before.push2.ensures, c.before.before.before.sign.ensures) (simp (cut-cut, append_assoc)) in
-    cutted ∙ cut_fits (written_of n) (written-fits n)
+    rw (ne_eqb _ _ c.before.before.before.before.if1.false, c.with-exponent.ensures, c.before.with-fraction.ensures, c.before.before.push2.ensures, c.before.before.before.sign.ensures) (simp (cut_cut, append_assoc)) in
+    cutted ∙ cut_fits (written_of n) (written_fits n)
 
-pub written-spec : {M : Type 1} → statement M
-written-spec =
+pub written_spec : {M : Type 1} → statement M
+written_spec =
     tie.close
     (tie.spec
     (λ c κs. search rules)

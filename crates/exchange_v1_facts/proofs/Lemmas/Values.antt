@@ -9,91 +9,91 @@ use borrow.Author.Tests.{ne_eqb, eqb-true, eqb-false, le-ltb, lt-leb}
 use lib.Dec.{eqb}
 use lib.ListN.{length, take, drop}
 use Rattle.buffer.specs.First.{pick}
-use Rattle.buffer.specs.Byte.{within, isDigit, every, sameText, numeralFrom, numeral, digit}
+use Rattle.buffer.specs.Byte.{within, is_digit, every, same_text, numeral_from, numeral, digit}
 use Rattle.buffer.proofs.Laws.{within_in, same_self}
 use Rattle.buffer.proofs.Rules.{each}
 use Rattle.error_texts.specs.declared.ErrorText.TheVariants.{Error1}
 use Rattle.decimal.specs.Exact.{units}
-use Rattle.decimal.specs.Number.{plus, minus, belowOf}
+use Rattle.decimal.specs.Number.{plus, minus, below_of}
 use Rattle.decimal.specs.declared.Number.{Number}
 use Rattle.decimal_facts.specs.Canonical.{Full}
 use Rattle.settings.specs.Limits.{standard}
 use Rattle.settings.specs.declared.PressureUnit.{PressureUnit}
 use Rattle.settings.specs.declared.PressureUnit.TheVariants.{Mbar, Torr, HPa}
-use Rattle.readings.specs.Measure.{sixOf, roundedText, measureText}
+use Rattle.readings.specs.Measure.{six_of, rounded_text, measure_text}
 use Rattle.readings.specs.declared.Pressure.{Pressure}
 use Rattle.readings.specs.declared.Pressure.TheVariants.{Measured, Faulty}
 use Rattle.readings_facts.specs.Sound.{SoundPressure}
-use Rattle.requests.specs.AskV1.{sixDigits}
+use Rattle.requests.specs.AskV1.{six_digits}
 use Rattle.requests.specs.declared.RequestV1.{RequestV1}
-use Rattle.settings.specs.Units.{unitCode}
-use Rattle.request_texts.specs.RequestText.{digits6, dataV1}
-use Rattle.replies_v1.specs.ReplyV1.{pressureV1, measureV1, factorV1, unit_at, unitV1, echoV1}
+use Rattle.settings.specs.Units.{unit_code}
+use Rattle.request_texts.specs.RequestText.{digits6, data_v1}
+use Rattle.replies_v1.specs.ReplyV1.{pressure_v1, measure_v1, factor_v1, unit_at, unit_v1, echo_v1}
 use Rattle.replies_v1.specs.declared.ReadV1.TheVariants.{Read}
 use Rattle.replies_v1.specs.declared.ReplyV1.{ReplyV1}
 use Rattle.replies_v1.specs.declared.ReplyV1.TheVariants.{Reads, Factor, Unit, Done, Error}
-use Rattle.settings.proofs.Laws.{factor-is}
-use Rattle.exchange_v1_facts.specs.HeldV1.{roundedV1, pressureHeld}
+use Rattle.settings.proofs.Laws.{factor_is}
+use Rattle.exchange_v1_facts.specs.HeldV1.{rounded_v1, pressure_held}
 use Rattle.exchange_v1_facts.proofs.Lemmas.Rows.{not_first}
 
 -- ---- digits
 
-digit-is : (n : ℕ) → isDigit (digit n) ≡ true
-digit-is n = within_in 48 57 (digit n) (omega arith) (omega arith)
+digit_is : (n : ℕ) → is_digit (digit n) ≡ true
+digit_is n = within_in 48 57 (digit n) (omega arith) (omega arith)
 
-pub six-are : (n : ℕ) → every isDigit (digits6 n) ≡ true
+pub six_are : (n : ℕ) → every is_digit (digits6 n) ≡ true
 unfolding every
-six-are n = rw (digit-is (n / 1000 / 100), digit-is (n / 1000 / 10), digit-is (n / 1000), digit-is (n / 100), digit-is (n / 10), digit-is n)
+six_are n = rw (digit_is (n / 1000 / 100), digit_is (n / 1000 / 10), digit_is (n / 1000), digit_is (n / 100), digit_is (n / 10), digit_is n)
 
-pub six-of-are : (q e : ℕ) → every isDigit (sixOf q e) ≡ true
-unfolding every sixOf
-six-of-are q e = rw (digit-is (q / 1000), digit-is (q / 100), digit-is (q / 10), digit-is q, digit-is (e / 10), digit-is e)
+pub six_of_are : (q e : ℕ) → every is_digit (six_of q e) ≡ true
+unfolding every six_of
+six_of_are q e = rw (digit_is (q / 1000), digit_is (q / 100), digit_is (q / 10), digit_is q, digit_is (e / 10), digit_is e)
 
 -- ---- a set's reply
 
-pub echo-held : (r : RequestV1) → echoV1 r (dataV1 r) ≡ Read Done
-unfolding echoV1 pick
-echo-held r = rw (same_self (dataV1 r))
+pub echo_held : (r : RequestV1) → echo_v1 r (data_v1 r) ≡ Read Done
+unfolding echo_v1 pick
+echo_held r = rw (same_self (data_v1 r))
 
 -- ---- the factor
 
 tens : (k : ℕ) → k < 1000 → (k / 100 % 10 * 10 + k / 10 % 10) * 10 + k % 10 ≡ k
 tens k h = omega arith
 
-three-spell : (a b c : ℕ) → numeral (48 ∷ 48 ∷ 48 ∷ (a + 48) ∷ (b + 48) ∷ (c + 48) ∷ []) ≡ (a * 10 + b) * 10 + c
-unfolding numeralFrom
-three-spell a b c = omega arith
+three_spell : (a b c : ℕ) → numeral (48 ∷ 48 ∷ 48 ∷ (a + 48) ∷ (b + 48) ∷ (c + 48) ∷ []) ≡ (a * 10 + b) * 10 + c
+unfolding numeral_from
+three_spell a b c = omega arith
 
 three : (k : ℕ) → k < 1000 → numeral (digits6 k) ≡ k
 three k h =
     let z : k / 1000 ≡ 0 = omega arith in
-    rw z (three-spell (k / 100 % 10) (k / 10 % 10) (k % 10) ∙ tens k h)
+    rw z (three_spell (k / 100 % 10) (k / 10 % 10) (k % 10) ∙ tens k h)
 
-pub factor-held : (n : ℕ) → standard.factorLow ≤ n → n ≤ standard.factorHigh → factorV1 (digits6 n) ≡ Read (Factor n)
-unfolding factorV1 sixDigits pick
-factor-held n h k = rw (six-are n, three n (omega arith), factor-is n h k)
+pub factor_held : (n : ℕ) → standard.factor_low ≤ n → n ≤ standard.factor_high → factor_v1 (digits6 n) ≡ Read (Factor n)
+unfolding factor_v1 six_digits pick
+factor_held n h k = rw (six_are n, three n (omega arith), factor_is n h k)
 
 -- ---- the unit
 
-pub unit-held : (u : PressureUnit) → unitV1 (digits6 (unitCode u)) ≡ Read (Unit u)
-unfolding unitV1 unit_at unitCode sixDigits every within numeralFrom pick
-unit-held Mbar = refl
-unit-held Torr = refl
-unit-held HPa = refl
+pub unit_held : (u : PressureUnit) → unit_v1 (digits6 (unit_code u)) ≡ Read (Unit u)
+unfolding unit_v1 unit_at unit_code six_digits every within numeral_from pick
+unit_held Mbar = refl
+unit_held Torr = refl
+unit_held HPa = refl
 
 -- ---- the pressure
 
-pub below-held : measureV1 (sixOf 0 0) ≡ Read ReplyV1.UnderRange
-unfolding measureV1 sixOf sameText pick
-below-held = refl
+pub below_held : measure_v1 (six_of 0 0) ≡ Read ReplyV1.UnderRange
+unfolding measure_v1 six_of same_text pick
+below_held = refl
 
-pub above-held : measureV1 (sixOf 9999 99) ≡ Read ReplyV1.OverRange
-unfolding measureV1 sixOf sameText pick
-above-held = refl
+pub above_held : measure_v1 (six_of 9999 99) ≡ Read ReplyV1.OverRange
+unfolding measure_v1 six_of same_text pick
+above_held = refl
 
-pub fault-held : measureV1 (49 ∷ []) ≡ Read (Error Error1)
-unfolding measureV1 sameText pick
-fault-held = refl
+pub fault_held : measure_v1 (49 ∷ []) ≡ Read (Error Error1)
+unfolding measure_v1 same_text pick
+fault_held = refl
 
 four : (q : ℕ) → q < 10000 → ((q / 1000 % 10 * 10 + q / 100 % 10) * 10 + q / 10 % 10) * 10 + q % 10 ≡ q
 four q h =
@@ -101,62 +101,62 @@ four q h =
     let b : q / 100 ≡ q / 10 / 10 = omega arith in
     rw (a, b, tens (q / 10) (omega arith)) (omega arith)
 
-four-spell : (a b c d : ℕ) → numeral ((a + 48) ∷ (b + 48) ∷ (c + 48) ∷ (d + 48) ∷ []) ≡ ((a * 10 + b) * 10 + c) * 10 + d
-unfolding numeralFrom
-four-spell a b c d = omega arith
+four_spell : (a b c d : ℕ) → numeral ((a + 48) ∷ (b + 48) ∷ (c + 48) ∷ (d + 48) ∷ []) ≡ ((a * 10 + b) * 10 + c) * 10 + d
+unfolding numeral_from
+four_spell a b c d = omega arith
 
-two-spell : (e f : ℕ) → numeral ((e + 48) ∷ (f + 48) ∷ []) ≡ e * 10 + f
-unfolding numeralFrom
-two-spell e f = omega arith
+two_spell : (e f : ℕ) → numeral ((e + 48) ∷ (f + 48) ∷ []) ≡ e * 10 + f
+unfolding numeral_from
+two_spell e f = omega arith
 
 module _ (q e : ℕ) (low : 1000 ≤ q) (high : q ≤ 9999) (least : 11 ≤ e) (most : e ≤ 30) where
-  mantissa-is : numeral (take 4 (sixOf q e)) ≡ q
-  unfolding sixOf
-  mantissa-is = four-spell (q / 1000 % 10) (q / 100 % 10) (q / 10 % 10) (q % 10) ∙ four q (omega arith)
+  mantissa_is : numeral (take 4 (six_of q e)) ≡ q
+  unfolding six_of
+  mantissa_is = four_spell (q / 1000 % 10) (q / 100 % 10) (q / 10 % 10) (q % 10) ∙ four q (omega arith)
 
-  exponent-is : numeral (drop 4 (sixOf q e)) ≡ e
-  unfolding sixOf
-  exponent-is = two-spell (e / 10 % 10) (e % 10) ∙ omega arith
+  exponent_is : numeral (drop 4 (six_of q e)) ≡ e
+  unfolding six_of
+  exponent_is = two_spell (e / 10 % 10) (e % 10) ∙ omega arith
 
-  not-one : sameText (sixOf q e) (49 ∷ []) ≡ false
-  unfolding sixOf sameText
-  not-one = refl
+  not_one : same_text (six_of q e) (49 ∷ []) ≡ false
+  unfolding six_of same_text
+  not_one = refl
 
   -- the first digit is not 0
-  not-below : sameText (sixOf q e) (48 ∷ 48 ∷ 48 ∷ 48 ∷ 48 ∷ 48 ∷ []) ≡ false
-  unfolding sixOf
-  not-below = not_first (digit (q / 1000)) 48 _ _ (ne_eqb (digit (q / 1000)) 48 (λ z. omega arith))
+  not_below : same_text (six_of q e) (48 ∷ 48 ∷ 48 ∷ 48 ∷ 48 ∷ 48 ∷ []) ≡ false
+  unfolding six_of
+  not_below = not_first (digit (q / 1000)) 48 _ _ (ne_eqb (digit (q / 1000)) 48 (λ z. omega arith))
 
   -- the fifth digit is not 9
-  not-above : sameText (sixOf q e) (57 ∷ 57 ∷ 57 ∷ 57 ∷ 57 ∷ 57 ∷ []) ≡ false
-  unfolding sixOf sameText
-  not-above = rw (ne_eqb (digit (e / 10)) 57 (λ z. omega arith), and-false (eqb (digit e) 57))
+  not_above : same_text (six_of q e) (57 ∷ 57 ∷ 57 ∷ 57 ∷ 57 ∷ 57 ∷ []) ≡ false
+  unfolding six_of same_text
+  not_above = rw (ne_eqb (digit (e / 10)) 57 (λ z. omega arith), and-false (eqb (digit e) 57))
 
-  six-there : sixDigits (sixOf q e) ≡ true
-  unfolding sixDigits sixOf
-  six-there = rw (six-of-are q e)
+  six_there : six_digits (six_of q e) ≡ true
+  unfolding six_digits six_of
+  six_there = rw (six_of_are q e)
 
   -- four digits and an exponent within the limits are read as themselves
-  pub reads_held : measureV1 (sixOf q e) ≡ Read (Reads q e)
-  unfolding measureV1 pressureV1 pick
-  reads_held = rw (not-one, not-below, not-above, six-there, mantissa-is, exponent-is, le-ltb q 1000 low, within_in 11 30 e least most)
+  pub reads_held : measure_v1 (six_of q e) ≡ Read (Reads q e)
+  unfolding measure_v1 pressure_v1 pick
+  reads_held = rw (not_one, not_below, not_above, six_there, mantissa_is, exponent_is, le-ltb q 1000 low, within_in 11 30 e least most)
 
 -- ---- the pressure that the gauge holds
 
 -- a canonical number above zero has six digits
 pub above_zero : (n : Number) → SoundPressure (Measured n) → Full n
-unfolding belowOf plus minus units
+unfolding below_of plus minus units
 above_zero n (inl z, h) = absurd (false≢true (rw z at h))
 above_zero n (inr f, h) = f
 
-rounded-held : (n : Number) → Full n → measureV1 (roundedText n) ≡ Read (roundedV1 n)
-unfolding roundedText roundedV1 pick
-rounded-held n f = go (eqb q 10000) refl
+rounded_held : (n : Number) → Full n → measure_v1 (rounded_text n) ≡ Read (rounded_v1 n)
+unfolding rounded_text rounded_v1 pick
+rounded_held n f = go (eqb q 10000) refl
   where
     q : ℕ
     q = (n.mantissa + 50) / 100
 
-    go : (b : Bool) → eqb q 10000 ≡ b → measureV1 (roundedText n) ≡ Read (roundedV1 n)
+    go : (b : Bool) → eqb q 10000 ≡ b → measure_v1 (rounded_text n) ≡ Read (rounded_v1 n)
     go true h =
         let e : q ≡ 10000 = eqb-true q 10000 h in
         let p : n.place + 11 + 1 ≡ n.place + 12 = omega arith in
@@ -167,22 +167,22 @@ rounded-held n f = go (eqb q 10000) refl
 
 -- the data of a reading are digits
 abbrev pub Digits : List ℕ → Type 0
-Digits d = (every isDigit d ≡ true) × (length d ≤ 6)
+Digits d = (every is_digit d ≡ true) × (length d ≤ 6)
 
-six-digits : (q e : ℕ) → Digits (sixOf q e)
-unfolding sixOf
-six-digits q e = (six-of-are q e, omega arith)
+six_digits_lem : (q e : ℕ) → Digits (six_of q e)
+unfolding six_of
+six_digits_lem q e = (six_of_are q e, omega arith)
 
-pub measure-digits : (p : Pressure) → Digits (measureText p)
-unfolding measureText roundedText every within
-measure-digits (Measured n) = each Digits _ _ _ (λ _. six-digits _ _) (λ _. six-digits _ _)
-measure-digits Pressure.UnderRange = six-digits 0 0
-measure-digits Pressure.OverRange = six-digits 9999 99
-measure-digits Faulty = (refl, omega arith)
+pub measure_digits : (p : Pressure) → Digits (measure_text p)
+unfolding measure_text rounded_text every within
+measure_digits (Measured n) = each Digits _ _ _ (λ _. six_digits_lem _ _) (λ _. six_digits_lem _ _)
+measure_digits Pressure.UnderRange = six_digits_lem 0 0
+measure_digits Pressure.OverRange = six_digits_lem 9999 99
+measure_digits Faulty = (refl, omega arith)
 
-pub pressure-held : (p : Pressure) → SoundPressure p → measureV1 (measureText p) ≡ Read (pressureHeld p)
-unfolding measureText pressureHeld
-pressure-held (Measured n) h = rounded-held n (above_zero n h)
-pressure-held Pressure.UnderRange h = below-held
-pressure-held Pressure.OverRange h = above-held
-pressure-held Faulty h = fault-held
+pub pressure_held_lem : (p : Pressure) → SoundPressure p → measure_v1 (measure_text p) ≡ Read (pressure_held p)
+unfolding measure_text pressure_held
+pressure_held_lem (Measured n) h = rounded_held n (above_zero n h)
+pressure_held_lem Pressure.UnderRange h = below_held
+pressure_held_lem Pressure.OverRange h = above_held
+pressure_held_lem Faulty h = fault_held

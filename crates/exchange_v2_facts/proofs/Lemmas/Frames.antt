@@ -8,91 +8,91 @@ use borrow.Author.Tests.{eq-eqb}
 use lib.Dec.{eqb}
 use lib.ListN.{length}
 use Rattle.buffer.specs.First.{pick}
-use Rattle.buffer.specs.Byte.{at, within, isDigit, every, sameText, Printed}
+use Rattle.buffer.specs.Byte.{at, within, is_digit, every, same_text, Printed}
 use Rattle.frames.specs.Checksum.{closed}
-use Rattle.frames.specs.Frame.{dataFrom}
+use Rattle.frames.specs.Frame.{data_from}
 use Rattle.frames.specs.declared.HeadV2.{HeadV2}
 use Rattle.frames.specs.declared.Frame.TheVariants.{V2}
-use Rattle.frame_writer.specs.Written.{frameV2}
-use Rattle.frame_writer.specs.Error.{errorHeadV2}
-use Rattle.error_texts.specs.Texts.{errorBytes}
+use Rattle.frame_writer.specs.Written.{frame_v2}
+use Rattle.frame_writer.specs.Error.{error_head_v2}
+use Rattle.error_texts.specs.Texts.{error_bytes}
 use Rattle.error_texts.specs.declared.ErrorText.{ErrorText}
 use Rattle.error_texts.specs.declared.ErrorText.TheVariants.{Length, Logic, NoDef, Syntax, Range, Error1}
 use Rattle.frame_writer.specs.Sendable.{SendableV2}
-use Rattle.frames_facts.proofs.ReadBack.{read-back-v2}
+use Rattle.frames_facts.proofs.ReadBack.{read_back_v2}
 use Rattle.settings.specs.Limits.{ProfileLimits}
-use Rattle.requests.specs.Command.{commandText}
+use Rattle.requests.specs.Command.{command_text}
 use Rattle.requests.specs.declared.RequestV2.{RequestV2}
 use Rattle.requests.specs.declared.RequestV2.TheVariants as request
-use Rattle.request_texts.specs.RequestText.{accessOf, commandIn, headFor}
+use Rattle.request_texts.specs.RequestText.{access_of, command_in, head_for}
 use Rattle.replies_v2_values.specs.declared.ReplyV2.TheVariants.{Error}
 use Rattle.replies_v2_values.specs.declared.ReadV2.TheVariants.{Read}
-use Rattle.replies_v2.specs.ReplyV2.{otherAccess, otherCommand, mismatched, errorReply, dataReply, readV2, bodyReply}
-use Rattle.replies_v2.proofs.Laws.{viaFrame, at-frame}
-use Rattle.printed_facts.proofs.Printed.{error-printed}
-use Rattle.printed_facts.proofs.Fits.{error-le}
-use Rattle.printed_facts.proofs.Sendable.{head-sendable-v2}
-use Rattle.gauge_rules.specs.RulesV2.{answerCode}
-use Rattle.gauge_table.specs.Reply.{answerHead}
-use Rattle.gauge_table.proofs.Sendable.{code-digit, answer-sendable}
+use Rattle.replies_v2.specs.ReplyV2.{other_access, other_command, mismatched, error_reply, data_reply, read_v2, body_reply}
+use Rattle.replies_v2.proofs.Laws.{via_frame, at_frame}
+use Rattle.printed_facts.proofs.Printed.{error_printed}
+use Rattle.printed_facts.proofs.Fits.{error_le}
+use Rattle.printed_facts.proofs.Sendable.{head_sendable_v2}
+use Rattle.gauge_rules.specs.RulesV2.{answer_code}
+use Rattle.gauge_table.specs.Reply.{answer_head}
+use Rattle.gauge_table.proofs.Sendable.{code_digit, answer_sendable}
 
 -- a written frame, with the address that was asked, is read by its head and its data
-pub by-head : (limits : ProfileLimits) (a : ℕ) (r : RequestV2) (h : HeadV2) (s : List ℕ) → h.address ≡ a → SendableV2 h s → (readV2 limits a r (frameV2 h s) ≡ bodyReply limits r h s) × (dataFrom 8 (frameV2 h s) ≡ s)
-unfolding frameV2 closed viaFrame pick
-by-head limits a r h s e ok =
-    let w = read-back-v2 h s ok in
-    let v : viaFrame limits a r (frameV2 h s) (V2 h) ≡ bodyReply limits r h s = rw (w.rest, eq-eqb h.address a e) in
-    (sym (at-frame limits a r (frameV2 h s) (V2 h) ok.access-in w.head) ∙ v, w.rest)
+pub by_head : (limits : ProfileLimits) (a : ℕ) (r : RequestV2) (h : HeadV2) (s : List ℕ) → h.address ≡ a → SendableV2 h s → (read_v2 limits a r (frame_v2 h s) ≡ body_reply limits r h s) × (data_from 8 (frame_v2 h s) ≡ s)
+unfolding frame_v2 closed via_frame pick
+by_head limits a r h s e ok =
+    let w = read_back_v2 h s ok in
+    let v : via_frame limits a r (frame_v2 h s) (V2 h) ≡ body_reply limits r h s = rw (w.rest, eq-eqb h.address a e) in
+    (sym (at_frame limits a r (frame_v2 h s) (V2 h) ok.access_in w.head) ∙ v, w.rest)
 
 -- ---- heads
 
 -- a reply with the request's address and command can be sent
-sendable : (a : ℕ) (r : RequestV2) (code : ℕ) (s : List ℕ) → within 1 999 a ≡ true → isDigit code ≡ true → Printed s → length s ≤ 99 → SendableV2 (answerHead (headFor a r) code) s
+sendable : (a : ℕ) (r : RequestV2) (code : ℕ) (s : List ℕ) → within 1 999 a ≡ true → is_digit code ≡ true → Printed s → length s ≤ 99 → SendableV2 (answer_head (head_for a r) code) s
 unfolding every
-sendable a r code s i d p l = answer-sendable (headFor a r) code s (head-sendable-v2 a r [] i refl (omega arith)) d p l
+sendable a r code s i d p l = answer_sendable (head_for a r) code s (head_sendable_v2 a r [] i refl (omega arith)) d p l
 
 -- the command is the one that was asked
-same-command : (a : ℕ) (r : RequestV2) (code : ℕ) → otherCommand r (answerHead (headFor a r) code) ≡ false
-unfolding otherCommand headFor
-same-command a r code =
-    rw (eq-eqb (at (commandText (commandIn r)) 0) (at (commandText (commandIn r)) 0) refl, eq-eqb (at (commandText (commandIn r)) 1) (at (commandText (commandIn r)) 1) refl)
+same_command : (a : ℕ) (r : RequestV2) (code : ℕ) → other_command r (answer_head (head_for a r) code) ≡ false
+unfolding other_command head_for
+same_command a r code =
+    rw (eq-eqb (at (command_text (command_in r)) 0) (at (command_text (command_in r)) 0) refl, eq-eqb (at (command_text (command_in r)) 1) (at (command_text (command_in r)) 1) refl)
 
 -- ---- replies to accepted requests
 
 -- "read 0 is answered by 1, write 2 by 3, factory default 4 by 5"
-answer-code : (r : RequestV2) → (otherAccess r (answerCode r) ≡ false) × (eqb (answerCode r) 55 ≡ false)
-unfolding answerCode accessOf otherAccess
-answer-code (request.Read c) = (refl, refl)
-answer-code (request.Restore c) = (refl, refl)
-answer-code (request.Set x) = (refl, refl)
+answer_code_lem : (r : RequestV2) → (other_access r (answer_code r) ≡ false) × (eqb (answer_code r) 55 ≡ false)
+unfolding answer_code access_of other_access
+answer_code_lem (request.Read c) = (refl, refl)
+answer_code_lem (request.Restore c) = (refl, refl)
+answer_code_lem (request.Set x) = (refl, refl)
 
-pub accepted-read : (limits : ProfileLimits) (a : ℕ) (r : RequestV2) (s : List ℕ) → within 1 999 a ≡ true → Printed s → length s ≤ 99
-    → (readV2 limits a r (frameV2 (answerHead (headFor a r) (answerCode r)) s) ≡ dataReply limits r s) × (dataFrom 8 (frameV2 (answerHead (headFor a r) (answerCode r)) s) ≡ s)
-unfolding headFor bodyReply mismatched pick
-accepted-read limits a r s i p l =
-    let c = answer-code r in
-    let h = by-head limits a r (answerHead (headFor a r) (answerCode r)) s refl (sendable a r (answerCode r) s i (code-digit r) p l) in
-    let m = same-command a r (answerCode r) in
+pub accepted_read : (limits : ProfileLimits) (a : ℕ) (r : RequestV2) (s : List ℕ) → within 1 999 a ≡ true → Printed s → length s ≤ 99
+    → (read_v2 limits a r (frame_v2 (answer_head (head_for a r) (answer_code r)) s) ≡ data_reply limits r s) × (data_from 8 (frame_v2 (answer_head (head_for a r) (answer_code r)) s) ≡ s)
+unfolding head_for body_reply mismatched pick
+accepted_read limits a r s i p l =
+    let c = answer_code_lem r in
+    let h = by_head limits a r (answer_head (head_for a r) (answer_code r)) s refl (sendable a r (answer_code r) s i (code_digit r) p l) in
+    let m = same_command a r (answer_code r) in
     (h.0 ∙ rw (c.0, m, c.1), h.1)
 
 -- ---- replies to refused requests
 
-error-text : (e : ErrorText) → errorReply (errorBytes e) ≡ Read (Error e)
-unfolding errorReply errorBytes pick sameText
-error-text Length = refl
-error-text Logic = refl
-error-text NoDef = refl
-error-text Syntax = refl
-error-text Range = refl
-error-text Error1 = refl
+error_text_lem : (e : ErrorText) → error_reply (error_bytes e) ≡ Read (Error e)
+unfolding error_reply error_bytes pick same_text
+error_text_lem Length = refl
+error_text_lem Logic = refl
+error_text_lem NoDef = refl
+error_text_lem Syntax = refl
+error_text_lem Range = refl
+error_text_lem Error1 = refl
 
-error-code : (r : RequestV2) → otherAccess r 55 ≡ false
-unfolding otherAccess
-error-code r = and-false (not (eqb 55 (accessOf r + 1)))
+error_code_lem : (r : RequestV2) → other_access r 55 ≡ false
+unfolding other_access
+error_code_lem r = and-false (not (eqb 55 (access_of r + 1)))
 
-pub error-read : (limits : ProfileLimits) (a : ℕ) (r : RequestV2) (e : ErrorText) → within 1 999 a ≡ true → readV2 limits a r (frameV2 (errorHeadV2 (headFor a r)) (errorBytes e)) ≡ Read (Error e)
-unfolding headFor errorHeadV2 bodyReply mismatched pick within
-error-read limits a r e i =
-    let h = by-head limits a r (answerHead (headFor a r) 55) (errorBytes e) refl (sendable a r 55 (errorBytes e) i refl (error-printed e) (omega (arith, error-le e))) in
-    let m = same-command a r 55 in
-    h.0 ∙ rw (error-code r, m) (error-text e)
+pub error_read : (limits : ProfileLimits) (a : ℕ) (r : RequestV2) (e : ErrorText) → within 1 999 a ≡ true → read_v2 limits a r (frame_v2 (error_head_v2 (head_for a r)) (error_bytes e)) ≡ Read (Error e)
+unfolding head_for error_head_v2 body_reply mismatched pick within
+error_read limits a r e i =
+    let h = by_head limits a r (answer_head (head_for a r) 55) (error_bytes e) refl (sendable a r 55 (error_bytes e) i refl (error_printed e) (omega (arith, error_le e))) in
+    let m = same_command a r 55 in
+    h.0 ∙ rw (error_code_lem r, m) (error_text_lem e)

@@ -2,13 +2,13 @@
 use mathlib.Core.Path.{refl}
 use borrow.Author.Rules.{rules}
 use Rattle.buffer.proofs.Rules.{past, stop, unflag}
-use Rattle.forms.specs.Forms.{betweenOf}
+use Rattle.forms.specs.Forms.{between_of}
 use Rattle.forms.proofs.between.Statement.{statement}
 use Rattle.forms.proofs.between.Tie as tie
 
-pub between-spec : {M : Type 1} → statement M
-unfolding betweenOf
-between-spec =
+pub between_spec : {M : Type 1} → statement M
+unfolding between_of
+between_spec =
     tie.close
     (tie.spec
     (λ c. search rules)

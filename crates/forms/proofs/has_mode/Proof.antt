@@ -1,13 +1,13 @@
 -- `forms::has_mode` meets its contract.
 use mathlib.Core.Path.{sym, ◌∙◌}
 use borrow.Author.Rules.{rules}
-use Rattle.forms.specs.Forms.{knownMode}
+use Rattle.forms.specs.Forms.{known_mode}
 use Rattle.forms.proofs.has_mode.Statement.{statement}
 use Rattle.forms.proofs.has_mode.Tie as tie
 
-pub has-mode-spec : {M : Type 1} → statement M
-unfolding knownMode
-has-mode-spec =
+pub has_mode_spec : {M : Type 1} → statement M
+unfolding known_mode
+has_mode_spec =
     tie.close
     (tie.spec
     (λ c κs. search rules)

@@ -1,13 +1,13 @@
 -- `forms::judge` meets its contract.
 use mathlib.Core.Path.{◌∙◌}
 use borrow.Author.Rules.{rules}
-use Rattle.forms.specs.Judged.{verdictOf, listIn}
+use Rattle.forms.specs.Judged.{verdict_of, list_in}
 use Rattle.forms.proofs.judge.Statement.{statement}
 use Rattle.forms.proofs.judge.Tie as tie
 
-pub judge-spec : {M : Type 1} → statement M
-unfolding verdictOf listIn
-judge-spec =
+pub judge_spec : {M : Type 1} → statement M
+unfolding verdict_of list_in
+judge_spec =
     tie.close
     (tie.spec
     (λ c. search rules)

@@ -9,8 +9,8 @@ use lib.Seq.{take_all}
 use Prim.Native.Nat.{ℕ}
 use mathlib.Core.List.{List}
 use Rattle.buffer.specs.Byte.{numeral}
-use Rattle.buffer.proofs.Laws.{within_in, within-below, within-above}
-use Rattle.forms.specs.Forms.{addressData}
+use Rattle.buffer.proofs.Laws.{within_in, within_below, within_above}
+use Rattle.forms.specs.Forms.{address_data}
 use Rattle.forms.proofs.judge_address.Statement.{statement}
 use Rattle.forms.proofs.judge_address.Tie as tie
 
@@ -19,29 +19,29 @@ three : (s : List ℕ) {n : ℕ} → n ≡ numeral (take 6 s) → length s ≡ 3
 three s e h = ap numeral (sym (take_all 6 s (omega arith))) ∙ sym e
 
 returns-3 : tie.Need-returns-3
-unfolding addressData pick
+unfolding address_data pick
 returns-3 c =
     let s = c.before.before.before.before.before.before.args.s.now in
     let n = c.before.numeral-of in
-    rw (eq-eqb _ 3 c.before.before.before.before.if1.false, sym c.before.before.before.all-within.ensures ∙ not-false _ c.before.before.if2.false, three s n.ensures c.before.before.before.before.if1.false, within-below 1 16 n.result c.if3.true)
+    rw (eq-eqb _ 3 c.before.before.before.before.if1.false, sym c.before.before.before.all-within.ensures ∙ not-false _ c.before.before.if2.false, three s n.ensures c.before.before.before.before.if1.false, within_below 1 16 n.result c.if3.true)
 
 returns-4 : tie.Need-returns-4
-unfolding addressData pick
+unfolding address_data pick
 returns-4 c =
     let s = c.before.before.before.before.before.before.before.args.s.now in
     let n = c.before.before.numeral-of in
-    rw (eq-eqb _ 3 c.before.before.before.before.before.if1.false, sym c.before.before.before.before.all-within.ensures ∙ not-false _ c.before.before.before.if2.false, three s n.ensures c.before.before.before.before.before.if1.false, within-above 1 16 n.result c.if4.true)
+    rw (eq-eqb _ 3 c.before.before.before.before.before.if1.false, sym c.before.before.before.before.all-within.ensures ∙ not-false _ c.before.before.before.if2.false, three s n.ensures c.before.before.before.before.before.if1.false, within_above 1 16 n.result c.if4.true)
 
 returns-5 : tie.Need-returns-5
-unfolding addressData pick
+unfolding address_data pick
 returns-5 c =
     let s = c.before.before.before.before.before.before.before.args.s.now in
     let n = c.before.before.numeral-of in
     rw (eq-eqb _ 3 c.before.before.before.before.before.if1.false, sym c.before.before.before.before.all-within.ensures ∙ not-false _ c.before.before.before.if2.false, three s n.ensures c.before.before.before.before.before.if1.false, within_in 1 16 n.result c.before.if3.false c.if4.false)
 
-pub judge-address-spec : {M : Type 1} → statement M
-unfolding addressData pick
-judge-address-spec =
+pub judge_address_spec : {M : Type 1} → statement M
+unfolding address_data pick
+judge_address_spec =
     tie.close
     (tie.spec
     (λ c. rw (ne_eqb _ 3 c.if1.true))

@@ -1,12 +1,12 @@
 -- `forms::judge_cathode` meets its contract.
 use borrow.Author.Rules.{rules}
-use Rattle.forms.specs.Forms.{digitOf}
+use Rattle.forms.specs.Forms.{digit_of}
 use Rattle.forms.proofs.judge_cathode.Statement.{statement}
 use Rattle.forms.proofs.judge_cathode.Tie as tie
 
-pub judge-cathode-spec : {M : Type 1} → statement M
-unfolding digitOf
-judge-cathode-spec =
+pub judge_cathode_spec : {M : Type 1} → statement M
+unfolding digit_of
+judge_cathode_spec =
     tie.close
     (tie.spec
     (λ c κs. search rules)

@@ -1,12 +1,12 @@
 -- `forms::judge_control` meets its contract.
 use borrow.Author.Rules.{rules}
-use Rattle.forms.specs.Forms.{digitOf}
+use Rattle.forms.specs.Forms.{digit_of}
 use Rattle.forms.proofs.judge_control.Statement.{statement}
 use Rattle.forms.proofs.judge_control.Tie as tie
 
-pub judge-control-spec : {M : Type 1} → statement M
-unfolding digitOf
-judge-control-spec =
+pub judge_control_spec : {M : Type 1} → statement M
+unfolding digit_of
+judge_control_spec =
     tie.close
     (tie.spec
     (λ c κs. search rules)

@@ -1,12 +1,12 @@
 -- `forms::judge_filament` meets its contract.
 use borrow.Author.Rules.{rules}
-use Rattle.forms.specs.Forms.{digitOf}
+use Rattle.forms.specs.Forms.{digit_of}
 use Rattle.forms.proofs.judge_filament.Statement.{statement}
 use Rattle.forms.proofs.judge_filament.Tie as tie
 
-pub judge-filament-spec : {M : Type 1} → statement M
-unfolding digitOf
-judge-filament-spec =
+pub judge_filament_spec : {M : Type 1} → statement M
+unfolding digit_of
+judge_filament_spec =
     tie.close
     (tie.spec
     (λ c κs. search rules)

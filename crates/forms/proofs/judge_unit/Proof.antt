@@ -2,14 +2,14 @@
 use mathlib.Core.Path.{sym, ◌∙◌}
 use borrow.Author.Rules.{rules}
 use Rattle.buffer.specs.First.{pick}
-use Rattle.settings.specs.Sent.{unitText}
-use Rattle.forms.specs.Forms.{unitData}
+use Rattle.settings.specs.Sent.{unit_text}
+use Rattle.forms.specs.Forms.{unit_data}
 use Rattle.forms.proofs.judge_unit.Statement.{statement}
 use Rattle.forms.proofs.judge_unit.Tie as tie
 
-pub judge-unit-spec : {M : Type 1} → statement M
-unfolding unitData unitText pick
-judge-unit-spec =
+pub judge_unit_spec : {M : Type 1} → statement M
+unfolding unit_data unit_text pick
+judge_unit_spec =
     tie.close
     (tie.spec
     (λ c. search rules)

@@ -4,6 +4,6 @@ use Rattle.sources.specs.Source.{list_of, Counted}
 use Rattle.forms.proofs.plain.Statement.{statement}
 use Rattle.forms.proofs.plain.Tie as tie
 
-pub plain-spec : {M : Type 1} → statement M
+pub plain_spec : {M : Type 1} → statement M
 unfolding list_of Counted
-plain-spec = tie.close (tie.spec (λ c. (refl, refl, refl)))
+plain_spec = tie.close (tie.spec (λ c. (refl, refl, refl)))

@@ -5,12 +5,12 @@ use borrow.Author.Rules.{rules}
 use borrow.Author.Tests.{le-leb, lt-leb, not-true, not-false}
 use Rattle.buffer.specs.First.{pick}
 use lib.ListN.{length-take}
-use Rattle.forms.specs.Forms.{endsOf}
+use Rattle.forms.specs.Forms.{ends_of}
 use Rattle.forms.proofs.read_ends.Statement.{statement}
 use Rattle.forms.proofs.read_ends.Tie as tie
 
 returns-5 : tie.Need-returns-5
-unfolding endsOf pick
+unfolding ends_of pick
 returns-5 c =
     rw (
       ← c.before.before.before.before.before.before.before.before.before.before.before.before.before.before.rest.ensures,
@@ -26,16 +26,16 @@ returns-5 c =
       sym c.before.before.before.before.before.before.before.before.before.has-between.ensures ∙ not-false _ c.before.before.before.before.before.before.before.before.if3.false,
     )
 
-pub read-ends-spec : {M : Type 1} → statement M
-unfolding endsOf pick
-read-ends-spec =
+pub read_ends_spec : {M : Type 1} → statement M
+unfolding ends_of pick
+read_ends_spec =
     tie.close
     (tie.spec
     (λ c κs. search rules)
     (λ c κs. search rules)
     (λ c κs. search rules)
     (λ c κs. search rules)
-    (λ c. rw (← c.before.before.before.before.rest.ensures, sym c.before.before.before.starts_with.ensures ∙ c.before.before.if1.true, ← c.before.read_number.ensures, ← c.in-limits.ensures))
+    (λ c. rw (← c.before.before.before.before.rest.ensures, sym c.before.before.before.starts_with.ensures ∙ c.before.before.if1.true, ← c.before.read_number.ensures, ← c.in_limits.ensures))
     (λ c κs. search rules)
     (λ c. rw (sym c.before.before.before.starts_with.ensures ∙ c.before.before.if1.false, sym c.before.starts-with2.ensures ∙ not-true _ c.if2.true))
     (λ c κs. search rules)

@@ -6,26 +6,26 @@ use Prim.Native.Nat.{ℕ, ◌+◌, ◌≤◌}
 use borrow.Author.Tests.{not-false}
 use lib.Dec.{eqb, leb}
 use lib.ListN.{length, take, drop}
-use Rattle.buffer.specs.Byte.{within, isDigit, every, sameText, untilOf, numeral, leading, starts_with}
+use Rattle.buffer.specs.Byte.{within, is_digit, every, same_text, until_of, numeral, leading, starts_with}
 use Rattle.buffer.proofs.Rules.{each}
-use Rattle.buffer.proofs.Laws.{within-true}
+use Rattle.buffer.proofs.Laws.{within_true}
 use Rattle.decimal.specs.Form.{number_of}
-use Rattle.decimal.specs.Number.{belowOf, hundredthsOf}
+use Rattle.decimal.specs.Number.{below_of, hundredths_of}
 use Rattle.decimal.specs.declared.Parsed.{Parsed}
 use Rattle.decimal.specs.declared.Parsed.TheVariants.{Value, Syntax, Range}
 use Rattle.decimal.specs.declared.Hundredths.{Hundredths}
 use Rattle.decimal.specs.declared.Hundredths.TheVariants.{Whole, Other}
-use Rattle.sources.specs.Entries.{entriesNumber}
-use Rattle.settings.specs.Limits.{ProfileLimits, standard, isFactor}
-use Rattle.settings.specs.Sent.{unitText}
+use Rattle.sources.specs.Entries.{entries_number}
+use Rattle.settings.specs.Limits.{ProfileLimits, standard, is_factor}
+use Rattle.settings.specs.Sent.{unit_text}
 use Rattle.settings.specs.declared.PressureUnit.TheVariants.{Mbar, Torr, HPa}
 use Rattle.settings.specs.declared.Transition.TheVariants.{Between}
 use Rattle.settings.specs.declared.Key.{Key}
 use Rattle.settings.specs.declared.Key.TheVariants.{DA, DU, C1, CM, CC, FC, ST, SM}
 use Rattle.settings.specs.declared.Setting.{Setting}
 use Rattle.settings.specs.declared.Setting.TheVariants.{PressureIn, Factor, Control, Cathode, Filament, Switch, Stream}
-use Rattle.forms.specs.Forms.{addressData, unitData, factorIn, factorOf, digitData, digitOf, limitedOf, directOf, betweenOf, endsOf, transitionOf, transitionData, idleList, knownMode, streamOf, streamData}
-use Rattle.forms.specs.Judged.{verdictOf}
+use Rattle.forms.specs.Forms.{address_data, unit_data, factor_in, factor_of, digit_data, digit_of, limited_of, direct_of, between_of, ends_of, transition_of, transition_data, idle_list, known_mode, stream_of, stream_data}
+use Rattle.forms.specs.Judged.{verdict_of}
 use Rattle.forms.specs.declared.Ends.{Ends}
 use Rattle.forms.specs.declared.Ends.TheVariants.{None, One}
 use Rattle.forms.specs.declared.Digit.{Digit}
@@ -34,10 +34,10 @@ use Rattle.forms.specs.declared.Limited.{Limited}
 use Rattle.forms.specs.declared.Limited.TheVariants.{Fine}
 use Rattle.forms.specs.declared.Verdict.{Verdict}
 use Rattle.forms.specs.declared.Verdict.TheVariants.{Set}
-use Rattle.forms_facts.proofs.Digit.{digit-exactly}
+use Rattle.forms_facts.proofs.Digit.{digit_exactly}
 use Rattle.forms_facts.proofs.Lemmas.Lacks.{both_told}
-use Rattle.forms_facts.proofs.Lemmas.Numbers.{read-canonical}
-use Rattle.settings.proofs.Laws.{factor-true}
+use Rattle.forms_facts.proofs.Lemmas.Numbers.{read_canonical}
+use Rattle.settings.proofs.Laws.{factor_true}
 use Rattle.forms_facts.specs.Sound.{InLimits, Sound}
 
 -- a verdict that accepts what is sound only
@@ -45,40 +45,40 @@ abbrev pub Good : ProfileLimits → Verdict → Type 0
 Good limits (Set x) = Sound limits x
 Good limits (Verdict.Refused k) = Unit {0}
 
-address-good : (limits : ProfileLimits) (s : List ℕ) → Good limits (addressData s)
-unfolding addressData
-address-good limits s =
+address_good : (limits : ProfileLimits) (s : List ℕ) → Good limits (address_data s)
+unfolding address_data
+address_good limits s =
     each (Good limits) (not (eqb (length s) 3)) (Verdict.Refused 10) _ (λ _. tt)
-    (λ _. each (Good limits) (not (every isDigit s)) (Verdict.Refused 10) _ (λ _. tt)
-    (λ _. each (Good limits) (not (within standard.addressLow standard.addressHigh (numeral s))) (Verdict.Refused 11) _ (λ _. tt)
-    (λ e. within-true standard.addressLow standard.addressHigh (numeral s) (not-false _ e))))
+    (λ _. each (Good limits) (not (every is_digit s)) (Verdict.Refused 10) _ (λ _. tt)
+    (λ _. each (Good limits) (not (within standard.address_low standard.address_high (numeral s))) (Verdict.Refused 11) _ (λ _. tt)
+    (λ e. within_true standard.address_low standard.address_high (numeral s) (not-false _ e))))
 
-unit-good : (limits : ProfileLimits) (s : List ℕ) → Good limits (unitData s)
-unfolding unitData
-unit-good limits s =
-    each (Good limits) (sameText s (unitText Mbar)) (Set (PressureIn Mbar)) _ (λ _. tt)
-    (λ _. each (Good limits) (sameText s (unitText Torr)) (Set (PressureIn Torr)) _ (λ _. tt)
-    (λ _. each (Good limits) (sameText s (unitText HPa)) (Set (PressureIn HPa)) (Verdict.Refused 10) (λ _. tt) (λ _. tt)))
+unit_good : (limits : ProfileLimits) (s : List ℕ) → Good limits (unit_data s)
+unfolding unit_data
+unit_good limits s =
+    each (Good limits) (same_text s (unit_text Mbar)) (Set (PressureIn Mbar)) _ (λ _. tt)
+    (λ _. each (Good limits) (same_text s (unit_text Torr)) (Set (PressureIn Torr)) _ (λ _. tt)
+    (λ _. each (Good limits) (same_text s (unit_text HPa)) (Set (PressureIn HPa)) (Verdict.Refused 10) (λ _. tt) (λ _. tt)))
 
-factor-in-good : (limits : ProfileLimits) (h : Hundredths) → Good limits (factorIn h)
-unfolding factorIn
-factor-in-good limits (Whole h) =
-    each (Good limits) (not (isFactor h)) (Verdict.Refused 11) (Set (Factor h)) (λ _. tt)
-    (λ e. factor-true h (not-false _ e))
-factor-in-good limits Other = tt
+factor_in_good : (limits : ProfileLimits) (h : Hundredths) → Good limits (factor_in h)
+unfolding factor_in
+factor_in_good limits (Whole h) =
+    each (Good limits) (not (is_factor h)) (Verdict.Refused 11) (Set (Factor h)) (λ _. tt)
+    (λ e. factor_true h (not-false _ e))
+factor_in_good limits Other = tt
 
-factor-good : (limits : ProfileLimits) (p : Parsed) → Good limits (factorOf p)
-unfolding factorOf
-factor-good limits Syntax = tt
-factor-good limits Range = tt
-factor-good limits (Value n) = each (Good limits) n.negative (Verdict.Refused 11) (factorIn (hundredthsOf n)) (λ _. tt) (λ _. factor-in-good limits (hundredthsOf n))
+factor_good : (limits : ProfileLimits) (p : Parsed) → Good limits (factor_of p)
+unfolding factor_of
+factor_good limits Syntax = tt
+factor_good limits Range = tt
+factor_good limits (Value n) = each (Good limits) n.negative (Verdict.Refused 11) (factor_in (hundredths_of n)) (λ _. tt) (λ _. factor_in_good limits (hundredths_of n))
 
-digit-good : (limits : ProfileLimits) (setting : ℕ → Setting) (most : ℕ) (s : List ℕ) → ((d : ℕ) → d ≤ most → Sound limits (setting d)) → Good limits (digitOf setting (digitData most s))
-unfolding digitOf
-digit-good limits setting most s f = go (digitData most s) refl
+digit_good : (limits : ProfileLimits) (setting : ℕ → Setting) (most : ℕ) (s : List ℕ) → ((d : ℕ) → d ≤ most → Sound limits (setting d)) → Good limits (digit_of setting (digit_data most s))
+unfolding digit_of
+digit_good limits setting most s f = go (digit_data most s) refl
   where
-    go : (r : Digit) → digitData most s ≡ r → Good limits (digitOf setting r)
-    go (Is d) e = f d ((digit-exactly most s d).0 e).1
+    go : (r : Digit) → digit_data most s ≡ r → Good limits (digit_of setting r)
+    go (Is d) e = f d ((digit_exactly most s d).0 e).1
     go (Digit.Refused k) e = tt
 
 -- a number that passes the limits
@@ -86,58 +86,58 @@ abbrev Passed : ProfileLimits → Limited → Type 0
 Passed limits (Fine n) = InLimits limits n
 Passed limits (Limited.Refused k) = Unit {0}
 
-limited-passed : (limits : ProfileLimits) (s : List ℕ) → Passed limits (limitedOf limits (number_of s))
-unfolding limitedOf
-limited-passed limits s = go (number_of s) refl
+limited_passed : (limits : ProfileLimits) (s : List ℕ) → Passed limits (limited_of limits (number_of s))
+unfolding limited_of
+limited_passed limits s = go (number_of s) refl
   where
-    go : (p : Parsed) → number_of s ≡ p → Passed limits (limitedOf limits p)
+    go : (p : Parsed) → number_of s ≡ p → Passed limits (limited_of limits p)
     go Syntax e = tt
     go Range e = tt
     go (Value n) e =
-        each (Passed limits) (belowOf n limits.transitionLow) (Limited.Refused 11) _ (λ _. tt)
-        (λ l. each (Passed limits) (belowOf limits.transitionHigh n) (Limited.Refused 11) (Fine n) (λ _. tt)
-        (λ h. record { canonical = read-canonical s n e; low = l; high = h }))
+        each (Passed limits) (below_of n limits.transition_low) (Limited.Refused 11) _ (λ _. tt)
+        (λ l. each (Passed limits) (below_of limits.transition_high n) (Limited.Refused 11) (Fine n) (λ _. tt)
+        (λ h. record { canonical = read_canonical s n e; low = l; high = h }))
 
-direct_good : (limits : ProfileLimits) (r : Limited) → Passed limits r → Good limits (directOf r)
-unfolding directOf
+direct_good : (limits : ProfileLimits) (r : Limited) → Passed limits r → Good limits (direct_of r)
+unfolding direct_of
 direct_good limits (Fine n) h = h
 direct_good limits (Limited.Refused k) h = tt
 
-between-good : (limits : ProfileLimits) (a b : Limited) → limits.betweenForm ≡ true → Passed limits a → Passed limits b → Good limits (betweenOf a b)
-unfolding betweenOf
-between-good limits (Fine a) (Fine b) f h k = each (Good limits) (not (belowOf a b)) (Verdict.Refused 12) (Set (Switch (Between a b))) (λ _. tt) (λ e. (f, h, k, not-false _ e))
-between-good limits (Fine a) (Limited.Refused k) f h l = tt
-between-good limits (Limited.Refused j) (Fine b) f h l = tt
-between-good limits (Limited.Refused j) (Limited.Refused k) f h l = tt
+between_good : (limits : ProfileLimits) (a b : Limited) → limits.between_form ≡ true → Passed limits a → Passed limits b → Good limits (between_of a b)
+unfolding between_of
+between_good limits (Fine a) (Fine b) f h k = each (Good limits) (not (below_of a b)) (Verdict.Refused 12) (Set (Switch (Between a b))) (λ _. tt) (λ e. (f, h, k, not-false _ e))
+between_good limits (Fine a) (Limited.Refused k) f h l = tt
+between_good limits (Limited.Refused j) (Fine b) f h l = tt
+between_good limits (Limited.Refused j) (Limited.Refused k) f h l = tt
 
-transition-good : (limits : ProfileLimits) (s : List ℕ) → Good limits (transitionData limits s)
-unfolding transitionData endsOf transitionOf
-transition-good limits s =
+transition_good : (limits : ProfileLimits) (s : List ℕ) → Good limits (transition_data limits s)
+unfolding transition_data ends_of transition_of
+transition_good limits s =
     let t = drop 1 s in
-    let k = untilOf 84 t in
-    let P : Ends → Type 0 = λ (e : Ends). Good limits (transitionOf e) in
-    each P (starts_with 68 s) (One (limitedOf limits (number_of t))) _ (λ _. direct_good limits _ (limited-passed limits t))
-    (λ _. each P (not (starts_with 70 s && limits.betweenForm)) None _ (λ _. tt)
+    let k = until_of 84 t in
+    let P : Ends → Type 0 = λ (e : Ends). Good limits (transition_of e) in
+    each P (starts_with 68 s) (One (limited_of limits (number_of t))) _ (λ _. direct_good limits _ (limited_passed limits t))
+    (λ _. each P (not (starts_with 70 s && limits.between_form)) None _ (λ _. tt)
     (λ f. each P (leb (length t) k) None _ (λ _. tt)
-    (λ _. between-good limits _ _ (both_told (starts_with 70 s) limits.betweenForm f).1 (limited-passed limits (take k t)) (limited-passed limits (drop (k + 1) t)))))
+    (λ _. between_good limits _ _ (both_told (starts_with 70 s) limits.between_form f).1 (limited_passed limits (take k t)) (limited_passed limits (drop (k + 1) t)))))
 
-stream-good : (limits : ProfileLimits) (s : List ℕ) (n : ℕ) → Good limits (streamOf s n)
-unfolding streamOf
-stream-good limits s n =
+stream_good : (limits : ProfileLimits) (s : List ℕ) (n : ℕ) → Good limits (stream_of s n)
+unfolding stream_of
+stream_good limits s n =
     each (Good limits) (eqb (leading s) 0) (Verdict.Refused 10) _ (λ _. tt)
     (λ _. each (Good limits) (eqb n 10) (Verdict.Refused 10) _ (λ _. tt)
-    (λ _. each (Good limits) (idleList s) (Verdict.Refused 10) _ (λ _. tt)
-    (λ _. each (Good limits) (not (knownMode s)) (Verdict.Refused 11) _ (λ _. tt)
+    (λ _. each (Good limits) (idle_list s) (Verdict.Refused 10) _ (λ _. tt)
+    (λ _. each (Good limits) (not (known_mode s)) (Verdict.Refused 11) _ (λ _. tt)
     (λ _. each (Good limits) (eqb n 11) (Verdict.Refused 11) _ (λ _. tt)
     (λ _. each (Good limits) (eqb n 12) (Verdict.Refused 12) (Set (Stream (starts_with 52 s))) (λ _. tt) (λ _. tt))))))
 
-pub good : (limits : ProfileLimits) (key : Key) (s : List ℕ) → Good limits (verdictOf limits key s)
-unfolding verdictOf streamData
-good limits DA s = address-good limits s
-good limits DU s = unit-good limits s
-good limits C1 s = factor-good limits (number_of s)
-good limits CM s = digit-good limits Control standard.controlHigh s (λ d h. h)
-good limits CC s = digit-good limits Cathode standard.cathodeHigh s (λ d h. h)
-good limits FC s = digit-good limits Filament standard.filamentHigh s (λ d h. h)
-good limits ST s = transition-good limits s
-good limits SM s = stream-good limits s (entriesNumber limits.sourceCodes (drop 1 s))
+pub good : (limits : ProfileLimits) (key : Key) (s : List ℕ) → Good limits (verdict_of limits key s)
+unfolding verdict_of stream_data
+good limits DA s = address_good limits s
+good limits DU s = unit_good limits s
+good limits C1 s = factor_good limits (number_of s)
+good limits CM s = digit_good limits Control standard.control_high s (λ d h. h)
+good limits CC s = digit_good limits Cathode standard.cathode_high s (λ d h. h)
+good limits FC s = digit_good limits Filament standard.filament_high s (λ d h. h)
+good limits ST s = transition_good limits s
+good limits SM s = stream_good limits s (entries_number limits.source_codes (drop 1 s))

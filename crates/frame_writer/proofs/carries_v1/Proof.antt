@@ -2,13 +2,13 @@
 use mathlib.Core.Path.{sym, ◌∙◌}
 use borrow.Author.Rules.{rules}
 use borrow.Author.Tests.{not-true, not-false}
-use Rattle.frame_writer.specs.Written.{carriesV1}
+use Rattle.frame_writer.specs.Written.{carries_v1}
 use Rattle.frame_writer.proofs.carries_v1.Statement.{statement}
 use Rattle.frame_writer.proofs.carries_v1.Tie as tie
 
-pub carries-v1-spec : {M : Type 1} → statement M
-unfolding carriesV1
-carries-v1-spec =
+pub carries_v1_spec : {M : Type 1} → statement M
+unfolding carries_v1
+carries_v1_spec =
     tie.close
     (tie.spec
     (λ c κs. search rules)

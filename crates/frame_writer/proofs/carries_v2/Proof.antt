@@ -3,20 +3,20 @@ use mathlib.Core.Path.{◌≡◌, sym, ◌∙◌}
 use mathlib.Core.Bool.{false}
 use borrow.Author.Rules.{rules}
 use borrow.Author.Tests.{not-true, not-false}
-use Rattle.buffer.specs.Byte.{isDigit}
-use Rattle.frame_writer.specs.Written.{carriesV2}
+use Rattle.buffer.specs.Byte.{is_digit}
+use Rattle.frame_writer.specs.Written.{carries_v2}
 use Rattle.frame_writer.proofs.carries_v2.Statement.{statement}
 use Rattle.frame_writer.proofs.carries_v2.Tie as tie
 
 no_digit : tie.Need-returns
-unfolding carriesV2
+unfolding carries_v2
 no_digit c =
-    let e : isDigit c.before.before.before.args.head.access ≡ false = sym c.before.is_Within.ensures ∙ not-true _ c.if1.true in
+    let e : is_digit c.before.before.before.args.head.access ≡ false = sym c.before.is_Within.ensures ∙ not-true _ c.if1.true in
     rw e
 
-pub carries-v2-spec : {M : Type 1} → statement M
-unfolding carriesV2
-carries-v2-spec =
+pub carries_v2_spec : {M : Type 1} → statement M
+unfolding carries_v2
+carries_v2_spec =
     tie.close
     (tie.spec
     (λ c κs. search rules)

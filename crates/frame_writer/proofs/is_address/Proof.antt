@@ -4,6 +4,6 @@ use Rattle.buffer.proofs.Rules.{tests}
 use Rattle.frame_writer.proofs.is_address.Statement.{statement}
 use Rattle.frame_writer.proofs.is_address.Tie as tie
 
-pub is-address-spec : {M : Type 1} → statement M
+pub is_address_spec : {M : Type 1} → statement M
 unfolding within
-is-address-spec = tie.close (tie.spec (λ c. search tests) (λ c. search tests))
+is_address_spec = tie.close (tie.spec (λ c. search tests) (λ c. search tests))

@@ -1,6 +1,6 @@
 -- `frames::data_from` meets its contract.
 use Rattle.std.proofs.Common.{◌-◌, length, take, sym, arith, drop_of_length-le, length-take, rules}
-use Rattle.buffer.proofs.Laws.{part-middle}
+use Rattle.buffer.proofs.Laws.{part_middle}
 use Rattle.frames.proofs.data_from.Statement.{statement}
 use Rattle.frames.proofs.data_from.Tie as tie
 
@@ -17,10 +17,10 @@ returns-2 c =
 returns-3 : tie.Need-returns-3
 returns-3 c =
     let a = c.before.before.before.args in
-    part-middle a.start (length a.s.now - 2) a.s.now
+    part_middle a.start (length a.s.now - 2) a.s.now
 
-pub data-from-spec : {M : Type 1} → statement M
-data-from-spec =
+pub data_from_spec : {M : Type 1} → statement M
+data_from_spec =
     tie.close
     (tie.spec
     (λ c. search rules)

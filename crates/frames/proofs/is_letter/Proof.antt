@@ -1,12 +1,12 @@
 -- `frames::is_letter` meets its contract.
 use Rattle.std.proofs.Common.{sym, ◌∙◌, rules}
-use Rattle.frames.specs.Frame.{isLetter}
+use Rattle.frames.specs.Frame.{is_letter}
 use Rattle.frames.proofs.is_letter.Statement.{statement}
 use Rattle.frames.proofs.is_letter.Tie as tie
 
-pub is-letter-spec : {M : Type 1} → statement M
-unfolding isLetter
-is-letter-spec =
+pub is_letter_spec : {M : Type 1} → statement M
+unfolding is_letter
+is_letter_spec =
     tie.close
     (tie.spec
     (λ c κs. search rules)

@@ -1,8 +1,8 @@
 -- `frames::read_frame` meets its contract: each answer by the tests that led there.
 use Rattle.std.proofs.Common.{◌≤◌, length, sym, ◌∙◌, arith, length-take, rules}
 use Rattle.buffer.proofs.Rules.{rules}
-use Rattle.frames.specs.Frame.{headV1, headV2}
-use Rattle.frames.proofs.Laws.{Enough, flags, shaped, frame-rows, numeral-3, numeral-part}
+use Rattle.frames.specs.Frame.{head_v1, head_v2}
+use Rattle.frames.proofs.Laws.{Enough, flags, shaped, frame_rows, numeral_3, numeral_part}
 use Rattle.frames.proofs.read_frame.Statement.{statement}
 use Rattle.frames.proofs.read_frame.Tie as tie
 
@@ -19,38 +19,38 @@ cast-address c =
     let e = c.before.before in
     let s = e.before.before.before.args.s.now in
     let b = e.before.before.shared-slice-known.given in
-    omega (arith, numeral-part 3 s (omega arith), numeral-3 s (omega (arith, (enough e).six)), b 0, b 1, b 2)
+    omega (arith, numeral_part 3 s (omega arith), numeral_3 s (omega (arith, (enough e).six)), b 0, b 1, b 2)
 
 returns-2 : tie.Need-returns-2
-unfolding headV1
+unfolding head_v1
 returns-2 c =
     let n = c.before.before.before in
     let e = n.before.before in
     let s = e.before.before.before.args.s.now in
-    rw (frame-rows s _ e.before.refusal.ensures, n.numeral-of.ensures, numeral-part 3 s (omega arith)) (search (rules, flags) depth 24)
+    rw (frame_rows s _ e.before.refusal.ensures, n.numeral-of.ensures, numeral_part 3 s (omega arith)) (search (rules, flags) depth 24)
 
 returns-3 : tie.Need-returns-3
-unfolding headV2
+unfolding head_v2
 returns-3 c =
     let n = c.before.before.before.before.before.before.before in
     let e = n.before.before in
     let s = e.before.before.before.args.s.now in
-    rw (frame-rows s _ e.before.refusal.ensures, n.numeral-of.ensures, numeral-part 3 s (omega arith)) (search (rules, flags) depth 24)
+    rw (frame_rows s _ e.before.refusal.ensures, n.numeral-of.ensures, numeral_part 3 s (omega arith)) (search (rules, flags) depth 24)
 
 returns-4 : tie.Need-returns-4
-unfolding headV2
+unfolding head_v2
 returns-4 c =
     let n = c.before.before.before.before.before.before.before in
     let e = n.before.before in
     let s = e.before.before.before.args.s.now in
-    rw (frame-rows s _ e.before.refusal.ensures, n.numeral-of.ensures, numeral-part 3 s (omega arith)) (search (rules, flags) depth 24)
+    rw (frame_rows s _ e.before.refusal.ensures, n.numeral-of.ensures, numeral_part 3 s (omega arith)) (search (rules, flags) depth 24)
 
-pub read-frame-spec : {M : Type 1} → statement M
-read-frame-spec =
+pub read_frame_spec : {M : Type 1} → statement M
+read_frame_spec =
     tie.close
     (tie.spec
     (λ c κs. search rules)
-    (λ c. rw (frame-rows c.before.before.before.args.s.now _ c.before.refusal.ensures) (search rules))
+    (λ c. rw (frame_rows c.before.before.before.args.s.now _ c.before.refusal.ensures) (search rules))
     (λ c. simp length-take (omega (arith, (enough c.before).six)))
     (λ c κs. search rules)
     cast-address

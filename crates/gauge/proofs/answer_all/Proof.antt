@@ -59,8 +59,8 @@ loop-again c =
     let left = ap length part ∙ length-drop c.before.before.before.before.before.before.before.before.before.before.loop.at input in
     (omega (arith, left), omega arith)
 
-pub answer-all-spec : {M : Type 1} → statement M
-answer-all-spec =
+pub answer_all_spec : {M : Type 1} → statement M
+answer_all_spec =
     tie.close
     (tie.spec
     invariant-loop

@@ -11,8 +11,8 @@ invariant-loop count i₀ i = Unit {0}
 abbrev decreases-loop : tie.decreases-loop
 decreases-loop count i₀ i = count - i
 
-pub chosen-spec : {M : Type 1} → statement M
-chosen-spec =
+pub chosen_spec : {M : Type 1} → statement M
+chosen_spec =
     tie.close
     (tie.spec
     invariant-loop

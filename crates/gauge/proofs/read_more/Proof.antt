@@ -6,8 +6,8 @@ use borrow.Author.Rules.{rules}
 use Rattle.gauge.proofs.read_more.Statement.{statement}
 use Rattle.gauge.proofs.read_more.Tie as tie
 
-pub read-more-spec : {M : Type 1} → statement M
-read-more-spec =
+pub read_more_spec : {M : Type 1} → statement M
+read_more_spec =
     tie.close
     (tie.spec
     (λ c. search rules)

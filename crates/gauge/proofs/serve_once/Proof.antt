@@ -5,8 +5,8 @@ use borrow.Author.Rules.{rules}
 use Rattle.gauge.proofs.serve_once.Statement.{statement}
 use Rattle.gauge.proofs.serve_once.Tie as tie
 
-pub serve-once-spec : {M : Type 1} → statement M
-serve-once-spec =
+pub serve_once_spec : {M : Type 1} → statement M
+serve_once_spec =
     tie.close
     (tie.spec
     (λ c κs. search rules)

@@ -5,8 +5,8 @@ use borrow.Author.Rules.{rules}
 use Rattle.gauge.proofs.with_word.Statement.{statement}
 use Rattle.gauge.proofs.with_word.Tie as tie
 
-pub with-word-spec : {M : Type 1} → statement M
-with-word-spec =
+pub with_word_spec : {M : Type 1} → statement M
+with_word_spec =
     tie.close
     (tie.spec
     (λ c κs. search rules)

@@ -6,158 +6,158 @@ use mathlib.Core.Logic.{◌⊎◌, inl, inr}
 use Prim.Native.Nat.{ℕ, ◌+◌, ◌≤◌}
 use native.Mathlib.Omega.{arith}
 use lib.ListN.{length, length-append}
-use Rattle.buffer.specs.Byte.{at, within, isDigit, every, Printed}
-use Rattle.buffer.proofs.Laws.{within-true}
+use Rattle.buffer.specs.Byte.{at, within, is_digit, every, Printed}
+use Rattle.buffer.proofs.Laws.{within_true}
 use Rattle.decimal.specs.Form.{number_of}
 use Rattle.decimal.specs.declared.Number.{Number}
 use Rattle.decimal.specs.declared.Parsed.TheVariants.{Value}
-use Rattle.decimal_facts.specs.Grammar.{Parts, Good, dash, point, exponent, spelledOf}
-use Rattle.sources.specs.Source.{listText}
+use Rattle.decimal_facts.specs.Grammar.{Parts, Good, dash, point, exponent, spelled_of}
+use Rattle.sources.specs.Source.{list_text}
 use Rattle.sources.specs.declared.Profile.TheVariants.{Standard}
-use Rattle.settings.specs.Limits.{ProfileLimits, limitsOf}
+use Rattle.settings.specs.Limits.{ProfileLimits, limits_of}
 use Rattle.settings.specs.Settings.{factory, put_of}
-use Rattle.settings.specs.Sent.{unitText, streamText, readText}
+use Rattle.settings.specs.Sent.{unit_text, stream_text, read_text}
 use Rattle.settings.specs.declared.PressureUnit.{PressureUnit}
 use Rattle.settings.specs.declared.PressureUnit.TheVariants.{Mbar, Torr, HPa}
 use Rattle.settings.specs.declared.Transition.TheVariants.{Direct, Between}
 use Rattle.settings.specs.declared.Key.TheVariants.{DA, DU, C1, CM, CC, FC, ST, SM}
 use Rattle.settings.specs.declared.Setting.{Setting}
 use Rattle.settings.specs.declared.Setting.TheVariants.{Address, PressureIn, Factor, Control, Cathode, Filament, Switch, Stream}
-use Rattle.forms_facts.proofs.Lemmas.Lists.{at-most-entries}
+use Rattle.forms_facts.proofs.Lemmas.Lists.{at_most_entries}
 use Rattle.forms_facts.specs.Codes.{GoodList}
 use Rattle.forms_facts.specs.Sound.{Sound, Proper}
 use Rattle.forms_facts.specs.Form.{FormWith}
 use Rattle.forms_facts.proofs.Lemmas.Lacks.{split}
-use Rattle.forms_facts.proofs.Lemmas.Numbers.{read-form}
-use Rattle.requests.specs.Command.{commandText}
+use Rattle.forms_facts.proofs.Lemmas.Numbers.{read_form}
+use Rattle.requests.specs.Command.{command_text}
 use Rattle.requests.specs.declared.Command.{Command}
 use Rattle.requests.specs.declared.Command.TheVariants.{MV, T2, FN, FS, Of}
 use Rattle.requests.specs.declared.RequestV2.{RequestV2}
 use Rattle.requests.specs.declared.RequestV2.TheVariants.{Read, Restore, Set}
-use Rattle.request_texts.specs.RequestText.{headFor}
-use Rattle.printed_facts.proofs.Printed.{join, next, digits3-printed, read-printed}
-use Rattle.printed_facts.proofs.Fits.{read-le}
-use Rattle.printed_facts.proofs.Sendable.{head-sendable-v2}
+use Rattle.request_texts.specs.RequestText.{head_for}
+use Rattle.printed_facts.proofs.Printed.{join, next, digits3_printed, read_printed}
+use Rattle.printed_facts.proofs.Fits.{read_le}
+use Rattle.printed_facts.proofs.Sendable.{head_sendable_v2}
 use Rattle.frame_writer.specs.Sendable.{SendableV2}
 use Rattle.gauge_facts.specs.Request.{DataFor}
 
 -- ---- the text of a number
 
-pub digits-printed : (s : List ℕ) → every isDigit s ≡ true → Printed s
+pub digits_printed : (s : List ℕ) → every is_digit s ≡ true → Printed s
 unfolding every
-digits-printed [] e = refl
-digits-printed (x ∷ s) e =
-    let w = split (isDigit x) (every isDigit s) e in
-    let d = within-true 48 57 x w.0 in
-    next x s (omega (arith, d.0)) (omega (arith, d.1)) (digits-printed s w.1)
+digits_printed [] e = refl
+digits_printed (x ∷ s) e =
+    let w = split (is_digit x) (every is_digit s) e in
+    let d = within_true 48 57 x w.0 in
+    next x s (omega (arith, d.0)) (omega (arith, d.1)) (digits_printed s w.1)
 
 -- printed, and of at most `most` bytes
 pub record Fits (most : ℕ) (s : List ℕ) : Type 0 where
   pub printed : Printed s
   pub few : length s ≤ most
 
-fits-join : (m n : ℕ) (s t : List ℕ) → Fits m s → Fits n t → Fits (m + n) (s ++ t)
-fits-join m n s t f h = record { printed = join s t f.printed h.printed; few = simp length-append (omega (arith, f.few, h.few)) }
+fits_join : (m n : ℕ) (s t : List ℕ) → Fits m s → Fits n t → Fits (m + n) (s ++ t)
+fits_join m n s t f h = record { printed = join s t f.printed h.printed; few = simp length-append (omega (arith, f.few, h.few)) }
 
 fits_next : (m x : ℕ) (s : List ℕ) → 32 ≤ x → x ≤ 126 → Fits m s → Fits (m + 1) (x ∷ s)
 fits_next m x s h k f = record { printed = next x s h k f.printed; few = omega (arith, f.few) }
 
-fits-none : Fits 0 []
+fits_none : Fits 0 []
 unfolding every
-fits-none = record { printed = refl; few = omega arith }
+fits_none = record { printed = refl; few = omega arith }
 
 more : (m n : ℕ) (s : List ℕ) → m ≤ n → Fits m s → Fits n s
 more m n s h f = record { printed = f.printed; few = omega (arith, f.few) }
 
-dash-fits : (b : Bool) → Fits 1 (dash b)
+dash_fits : (b : Bool) → Fits 1 (dash b)
 unfolding dash
-dash-fits true = fits_next 0 45 [] (omega arith) (omega arith) fits-none
-dash-fits false = more 0 1 [] (omega arith) fits-none
+dash_fits true = fits_next 0 45 [] (omega arith) (omega arith) fits_none
+dash_fits false = more 0 1 [] (omega arith) fits_none
 
-digits-fit : (s : List ℕ) → every isDigit s ≡ true → Fits (length s) s
-digits-fit s e = record { printed = digits-printed s e; few = omega arith }
+digits_fit : (s : List ℕ) → every is_digit s ≡ true → Fits (length s) s
+digits_fit s e = record { printed = digits_printed s e; few = omega arith }
 
-point-fits : (s : List ℕ) → every isDigit s ≡ true → Fits (length s + 1) (point s)
+point_fits : (s : List ℕ) → every is_digit s ≡ true → Fits (length s + 1) (point s)
 unfolding point
-point-fits [] e = more 0 1 [] (omega arith) fits-none
-point-fits (x ∷ s) e = fits_next (length (x ∷ s)) 46 (x ∷ s) (omega arith) (omega arith) (digits-fit (x ∷ s) e)
+point_fits [] e = more 0 1 [] (omega arith) fits_none
+point_fits (x ∷ s) e = fits_next (length (x ∷ s)) 46 (x ∷ s) (omega arith) (omega arith) (digits_fit (x ∷ s) e)
 
-exponent-fits : (mark : ℕ) (below : Bool) (s : List ℕ) → (mark ≡ 101) ⊎ (mark ≡ 69) → every isDigit s ≡ true → Fits (length s + 2) (exponent mark below s)
+exponent_fits : (mark : ℕ) (below : Bool) (s : List ℕ) → (mark ≡ 101) ⊎ (mark ≡ 69) → every is_digit s ≡ true → Fits (length s + 2) (exponent mark below s)
 unfolding exponent
-exponent-fits mark below [] m e = more 0 2 [] (omega arith) fits-none
-exponent-fits mark below (x ∷ s) m e = go m
+exponent_fits mark below [] m e = more 0 2 [] (omega arith) fits_none
+exponent_fits mark below (x ∷ s) m e = go m
   where
     rest : Fits (1 + length (x ∷ s)) (dash below ++ x ∷ s)
-    rest = fits-join 1 (length (x ∷ s)) (dash below) (x ∷ s) (dash-fits below) (digits-fit (x ∷ s) e)
+    rest = fits_join 1 (length (x ∷ s)) (dash below) (x ∷ s) (dash_fits below) (digits_fit (x ∷ s) e)
 
     go : (mark ≡ 101) ⊎ (mark ≡ 69) → Fits (length (x ∷ s) + 2) (mark ∷ dash below ++ x ∷ s)
     go (inl k) = more (1 + length (x ∷ s) + 1) _ _ (omega arith) (fits_next _ mark _ (omega arith) (omega arith) rest)
     go (inr k) = more (1 + length (x ∷ s) + 1) _ _ (omega arith) (fits_next _ mark _ (omega arith) (omega arith) rest)
 
-form-fits : (p : Parts) → Good p → Fits 12 (spelledOf p)
-unfolding spelledOf
-form-fits p g =
-    let a = fits-join 1 _ (dash p.negative) p.whole (dash-fits p.negative) (digits-fit p.whole g.whole-digits) in
-    let b = fits-join _ _ (dash p.negative ++ p.whole) (point p.fraction) a (point-fits p.fraction g.fraction-digits) in
-    let c = fits-join _ _ (dash p.negative ++ p.whole ++ point p.fraction) (exponent p.mark p.below p.power) b (exponent-fits p.mark p.below p.power g.marked g.power-digits) in
+form_fits : (p : Parts) → Good p → Fits 12 (spelled_of p)
+unfolding spelled_of
+form_fits p g =
+    let a = fits_join 1 _ (dash p.negative) p.whole (dash_fits p.negative) (digits_fit p.whole g.whole_digits) in
+    let b = fits_join _ _ (dash p.negative ++ p.whole) (point p.fraction) a (point_fits p.fraction g.fraction_digits) in
+    let c = fits_join _ _ (dash p.negative ++ p.whole ++ point p.fraction) (exponent p.mark p.below p.power) b (exponent_fits p.mark p.below p.power g.marked g.power_digits) in
     more _ 12 _ (omega (arith, g.six, g.two)) c
 
 number_fits : (s : List ℕ) (n : Number) → number_of s ≡ Value n → Fits 12 s
-number_fits s n e = let w = read-form s n e in rw w.2 at (form-fits w.0 w.1)
+number_fits s n e = let w = read_form s n e in rw w.2 at (form_fits w.0 w.1)
 
 -- ---- the data of each setting
 
-unit-fits : (u : PressureUnit) → Fits 4 (unitText u)
-unfolding unitText readText put_of
-unit-fits Mbar = record { printed = read-printed DU (put_of (factory (limitsOf Standard)) (PressureIn Mbar) []); few = omega arith }
-unit-fits Torr = record { printed = read-printed DU (put_of (factory (limitsOf Standard)) (PressureIn Torr) []); few = omega arith }
-unit-fits HPa = record { printed = read-printed DU (put_of (factory (limitsOf Standard)) (PressureIn HPa) []); few = omega arith }
+unit_fits : (u : PressureUnit) → Fits 4 (unit_text u)
+unfolding unit_text read_text put_of
+unit_fits Mbar = record { printed = read_printed DU (put_of (factory (limits_of Standard)) (PressureIn Mbar) []); few = omega arith }
+unit_fits Torr = record { printed = read_printed DU (put_of (factory (limits_of Standard)) (PressureIn Torr) []); few = omega arith }
+unit_fits HPa = record { printed = read_printed DU (put_of (factory (limits_of Standard)) (PressureIn HPa) []); few = omega arith }
 
-digit-fits : (v : ℕ) → v ≤ 9 → Fits 1 ((v + 48) ∷ [])
-digit-fits v h = fits_next 0 (v + 48) [] (omega arith) (omega arith) fits-none
+digit_fits : (v : ℕ) → v ≤ 9 → Fits 1 ((v + 48) ∷ [])
+digit_fits v h = fits_next 0 (v + 48) [] (omega arith) (omega arith) fits_none
 
-list-fits : (limits : ProfileLimits) → Proper limits → (list : List ℕ) → GoodList limits.sourceCodes list → Fits 24 (52 ∷ listText list)
-unfolding readText put_of streamText
-list-fits limits ok list h = record { printed = read-printed SM (put_of (factory (limitsOf Standard)) (Stream true) list); few = read-le (put_of (factory (limitsOf Standard)) (Stream true) list) (omega (arith, at-most-entries limits ok list h, ok.few)) SM }
+list_fits : (limits : ProfileLimits) → Proper limits → (list : List ℕ) → GoodList limits.source_codes list → Fits 24 (52 ∷ list_text list)
+unfolding read_text put_of stream_text
+list_fits limits ok list h = record { printed = read_printed SM (put_of (factory (limits_of Standard)) (Stream true) list); few = read_le (put_of (factory (limits_of Standard)) (Stream true) list) (omega (arith, at_most_entries limits ok list h, ok.few)) SM }
 
-setting-fits : (limits : ProfileLimits) → Proper limits → (x : Setting) (list d : List ℕ) → FormWith limits d x list → Sound limits x → GoodList limits.sourceCodes list → Fits 99 d
-setting-fits limits ok (Address v) list d f h k = rw f.0 (record { printed = digits3-printed v; few = omega arith })
-setting-fits limits ok (PressureIn u) list d f h k = rw f.0 (more 4 99 _ (omega arith) (unit-fits u))
-setting-fits limits ok (Factor c) list d f h k = more 12 99 d (omega arith) (number_fits d f.0.0 f.0.1)
-setting-fits limits ok (Control v) list d f h k = rw f.0 (more 1 99 _ (omega arith) (digit-fits v (omega (arith, h))))
-setting-fits limits ok (Cathode v) list d f h k = rw f.0 (more 1 99 _ (omega arith) (digit-fits v (omega (arith, h))))
-setting-fits limits ok (Filament v) list d f h k = rw f.0 (more 1 99 _ (omega arith) (digit-fits v (omega (arith, h))))
-setting-fits limits ok (Switch (Direct n)) list d f h k = let w = f.0 in rw w.1 (more 13 99 _ (omega arith) (fits_next 12 68 w.0 (omega arith) (omega arith) (number_fits w.0 n w.2)))
-setting-fits limits ok (Switch (Between a b)) list d f h k =
+setting_fits : (limits : ProfileLimits) → Proper limits → (x : Setting) (list d : List ℕ) → FormWith limits d x list → Sound limits x → GoodList limits.source_codes list → Fits 99 d
+setting_fits limits ok (Address v) list d f h k = rw f.0 (record { printed = digits3_printed v; few = omega arith })
+setting_fits limits ok (PressureIn u) list d f h k = rw f.0 (more 4 99 _ (omega arith) (unit_fits u))
+setting_fits limits ok (Factor c) list d f h k = more 12 99 d (omega arith) (number_fits d f.0.0 f.0.1)
+setting_fits limits ok (Control v) list d f h k = rw f.0 (more 1 99 _ (omega arith) (digit_fits v (omega (arith, h))))
+setting_fits limits ok (Cathode v) list d f h k = rw f.0 (more 1 99 _ (omega arith) (digit_fits v (omega (arith, h))))
+setting_fits limits ok (Filament v) list d f h k = rw f.0 (more 1 99 _ (omega arith) (digit_fits v (omega (arith, h))))
+setting_fits limits ok (Switch (Direct n)) list d f h k = let w = f.0 in rw w.1 (more 13 99 _ (omega arith) (fits_next 12 68 w.0 (omega arith) (omega arith) (number_fits w.0 n w.2)))
+setting_fits limits ok (Switch (Between a b)) list d f h k =
     let w = f.0 in
     let u = fits_next 12 84 w.1 (omega arith) (omega arith) (number_fits w.1 b w.4) in
-    let t = fits-join 12 13 w.0 (84 ∷ w.1) (number_fits w.0 a w.3) u in
+    let t = fits_join 12 13 w.0 (84 ∷ w.1) (number_fits w.0 a w.3) u in
     rw w.2 (more 26 99 _ (omega arith) (fits_next 25 70 (w.0 ++ 84 ∷ w.1) (omega arith) (omega arith) t))
-setting-fits limits ok (Stream false) list d f h k = rw f.0 (more 1 99 _ (omega arith) (digit-fits 0 (omega arith)))
-setting-fits limits ok (Stream true) list d f h k = rw f (more 24 99 _ (omega arith) (list-fits limits ok list k))
+setting_fits limits ok (Stream false) list d f h k = rw f.0 (more 1 99 _ (omega arith) (digit_fits 0 (omega arith)))
+setting_fits limits ok (Stream true) list d f h k = rw f (more 24 99 _ (omega arith) (list_fits limits ok list k))
 
-data-fits : (limits : ProfileLimits) → Proper limits → (r : RequestV2) (list d : List ℕ) → DataFor limits r list d → Fits 99 d
-data-fits limits ok (Read c) list d f = rw f.0 (more 0 99 [] (omega arith) fits-none)
-data-fits limits ok (Restore c) list d f = rw f.1 (more 0 99 [] (omega arith) fits-none)
-data-fits limits ok (Set x) list d f = setting-fits limits ok x list d f.0 f.1 f.2
+data_fits_lem : (limits : ProfileLimits) → Proper limits → (r : RequestV2) (list d : List ℕ) → DataFor limits r list d → Fits 99 d
+data_fits_lem limits ok (Read c) list d f = rw f.0 (more 0 99 [] (omega arith) fits_none)
+data_fits_lem limits ok (Restore c) list d f = rw f.1 (more 0 99 [] (omega arith) fits_none)
+data_fits_lem limits ok (Set x) list d f = setting_fits limits ok x list d f.0 f.1 f.2
 
 -- ---- the head
 
 -- a command is two characters
-pub command-two : (c : Command) → at (commandText c) 0 ∷ at (commandText c) 1 ∷ [] ≡ commandText c
-unfolding commandText
-command-two MV = refl
-command-two T2 = refl
-command-two FN = refl
-command-two FS = refl
-command-two (Of DA) = refl
-command-two (Of DU) = refl
-command-two (Of C1) = refl
-command-two (Of CM) = refl
-command-two (Of CC) = refl
-command-two (Of FC) = refl
-command-two (Of ST) = refl
-command-two (Of SM) = refl
+pub command_two : (c : Command) → at (command_text c) 0 ∷ at (command_text c) 1 ∷ [] ≡ command_text c
+unfolding command_text
+command_two MV = refl
+command_two T2 = refl
+command_two FN = refl
+command_two FS = refl
+command_two (Of DA) = refl
+command_two (Of DU) = refl
+command_two (Of C1) = refl
+command_two (Of CM) = refl
+command_two (Of CC) = refl
+command_two (Of FC) = refl
+command_two (Of ST) = refl
+command_two (Of SM) = refl
 
-pub carried : (limits : ProfileLimits) → Proper limits → (a : ℕ) (r : RequestV2) (list d : List ℕ) → within 1 999 a ≡ true → DataFor limits r list d → SendableV2 (headFor a r) d
-carried limits ok a r list d e f = let w = data-fits limits ok r list d f in head-sendable-v2 a r d e w.printed w.few
+pub carried : (limits : ProfileLimits) → Proper limits → (a : ℕ) (r : RequestV2) (list d : List ℕ) → within 1 999 a ≡ true → DataFor limits r list d → SendableV2 (head_for a r) d
+carried limits ok a r list d e f = let w = data_fits_lem limits ok r list d f in head_sendable_v2 a r d e w.printed w.few

@@ -20,9 +20,9 @@ past_row true k n z e = absurd (true≢false (sym e ∙ z))
 past_row false k n z e = (refl, e)
 
 -- a test that fails, and then others
-past-test : (t b : Bool) → (not t && b) ≡ true → (t ≡ false) × (b ≡ true)
-past-test false b e = (refl, e)
-past-test true b e = absurd (true≢false (sym e))
+past_test : (t b : Bool) → (not t && b) ≡ true → (t ≡ false) × (b ≡ true)
+past_test false b e = (refl, e)
+past_test true b e = absurd (true≢false (sym e))
 
 -- a row whose number is at most 13, and then others
 pub under : (t : Bool) (k n : ℕ) → leb k 13 ≡ true → leb n 13 ≡ true → leb (pick t k n) 13 ≡ true
@@ -87,20 +87,20 @@ module _ (room shape sum address other len code command lacks form lock range en
   from : fits ≡ true → eqb rows 0 ≡ true
   unfolding pick
   from e =
-      let a = past-test room _ e in
+      let a = past_test room _ e in
       let b = (and-eq-true_iff (not shape && not len) _).0 a.1 in
-      let c = past-test sum _ b.1 in
+      let c = past_test sum _ b.1 in
       let d = (and-eq-true_iff (not address && not other) _).0 c.1 in
-      let f = past-test command _ d.1 in
+      let f = past_test command _ d.1 in
       let h = (and-eq-true_iff (not code && not lacks) _).0 f.1 in
       let i = (and-eq-true_iff (not form && (not range && not ends)) _).0 h.1 in
-      let j = past-test shape _ b.0 in
-      let k = past-test address _ d.0 in
-      let l = past-test code _ h.0 in
-      let m = past-test form _ i.0 in
-      let n = past-test range _ m.1 in
-      let o = past-test lock _ i.1 in
-      let p = past-test rule _ o.1 in
+      let j = past_test shape _ b.0 in
+      let k = past_test address _ d.0 in
+      let l = past_test code _ h.0 in
+      let m = past_test form _ i.0 in
+      let n = past_test range _ m.1 in
+      let o = past_test lock _ i.1 in
+      let p = past_test rule _ o.1 in
       rw (a.0, j.0, c.0, k.0, not-true other k.1, not-true len j.1, l.0, f.0, not-true lacks l.1, m.0, o.0, n.0, not-true ends n.1, p.0, not-true fault p.1)
 
   pub rows_fit : eqb rows 0 ≡ fits

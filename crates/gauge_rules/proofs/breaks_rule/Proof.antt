@@ -4,5 +4,5 @@ use borrow.Author.Rules.{rules}
 use Rattle.gauge_rules.proofs.breaks_rule.Statement.{statement}
 use Rattle.gauge_rules.proofs.breaks_rule.Tie as tie
 
-pub breaks-rule-spec : {M : Type 1} → statement M
-breaks-rule-spec = tie.close (tie.spec (λ c κs. search rules) (λ c. rw (sym c.before.changes-cathode.ensures ∙ c.if1.true) refl) (λ c. rw (sym c.before.changes-cathode.ensures ∙ c.if1.false)))
+pub breaks_rule_spec : {M : Type 1} → statement M
+breaks_rule_spec = tie.close (tie.spec (λ c κs. search rules) (λ c. rw (sym c.before.changes-cathode.ensures ∙ c.if1.true) refl) (λ c. rw (sym c.before.changes-cathode.ensures ∙ c.if1.false)))

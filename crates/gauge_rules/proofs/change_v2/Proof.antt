@@ -2,14 +2,14 @@
 use mathlib.Core.Path.{refl}
 use borrow.Author.Rules.{rules}
 use Rattle.sources.specs.Source.{list_of, Counted}
-use Rattle.settings.specs.Settings.{changedBy}
-use Rattle.gauge_rules.specs.RulesV2.{enterV2}
+use Rattle.settings.specs.Settings.{changed_by}
+use Rattle.gauge_rules.specs.RulesV2.{enter_v2}
 use Rattle.gauge_rules.proofs.change_v2.Statement.{statement}
 use Rattle.gauge_rules.proofs.change_v2.Tie as tie
 
-pub change-v2-spec : {M : Type 1} → statement M
-unfolding list_of Counted changedBy enterV2
-change-v2-spec =
+pub change_v2_spec : {M : Type 1} → statement M
+unfolding list_of Counted changed_by enter_v2
+change_v2_spec =
     tie.close
     (tie.spec
     (λ c. search rules)

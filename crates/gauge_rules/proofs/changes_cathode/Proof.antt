@@ -1,12 +1,12 @@
 -- `gauge_rules::changes_cathode` meets its contract.
 use borrow.Author.Rules.{rules}
-use Rattle.gauge_rules.specs.RulesV2.{changesCathode}
+use Rattle.gauge_rules.specs.RulesV2.{changes_cathode}
 use Rattle.gauge_rules.proofs.changes_cathode.Statement.{statement}
 use Rattle.gauge_rules.proofs.changes_cathode.Tie as tie
 
-pub changes-cathode-spec : {M : Type 1} → statement M
-unfolding changesCathode
-changes-cathode-spec =
+pub changes_cathode_spec : {M : Type 1} → statement M
+unfolding changes_cathode
+changes_cathode_spec =
     tie.close
     (tie.spec
     (λ c. search rules)

@@ -5,8 +5,8 @@ use Rattle.settings.specs.Settings.{held}
 use Rattle.gauge_rules.proofs.enter_v2.Statement.{statement}
 use Rattle.gauge_rules.proofs.enter_v2.Tie as tie
 
-pub enter-v2-spec : {M : Type 1} → statement M
-enter-v2-spec =
+pub enter_v2_spec : {M : Type 1} → statement M
+enter_v2_spec =
     tie.close
     (tie.spec
     (λ c κs. search rules)

@@ -3,13 +3,13 @@ use mathlib.Core.Path.{refl}
 use borrow.Author.Rules.{rules}
 use borrow.Author.Tests.{eq-eqb, ne_eqb}
 use Rattle.buffer.proofs.Rules.{rules, flag, past, stop}
-use Rattle.gauge_rules.specs.RulesV2.{filamentOf}
+use Rattle.gauge_rules.specs.RulesV2.{filament_of}
 use Rattle.gauge_rules.proofs.filament_number.Statement.{statement}
 use Rattle.gauge_rules.proofs.filament_number.Tie as tie
 
-pub filament-number-spec : {M : Type 1} → statement M
-unfolding filamentOf
-filament-number-spec =
+pub filament_number_spec : {M : Type 1} → statement M
+unfolding filament_of
+filament_number_spec =
     tie.close
     (tie.spec
     (λ c κs. search rules)

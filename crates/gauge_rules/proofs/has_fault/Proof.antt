@@ -1,12 +1,12 @@
 -- `gauge_rules::has_fault` meets its contract.
 use borrow.Author.Rules.{rules}
-use Rattle.gauge_rules.specs.RulesV2.{readsFaulty}
+use Rattle.gauge_rules.specs.RulesV2.{reads_faulty}
 use Rattle.gauge_rules.proofs.has_fault.Statement.{statement}
 use Rattle.gauge_rules.proofs.has_fault.Tie as tie
 
-pub has-fault-spec : {M : Type 1} → statement M
-unfolding readsFaulty
-has-fault-spec =
+pub has_fault_spec : {M : Type 1} → statement M
+unfolding reads_faulty
+has_fault_spec =
     tie.close
     (tie.spec
     (λ c. search rules)

@@ -1,12 +1,12 @@
 -- `gauge_rules::is_cathode` meets its contract.
 use borrow.Author.Rules.{rules}
-use Rattle.gauge_rules.specs.RulesV2.{changesCathode}
+use Rattle.gauge_rules.specs.RulesV2.{changes_cathode}
 use Rattle.gauge_rules.proofs.is_cathode.Statement.{statement}
 use Rattle.gauge_rules.proofs.is_cathode.Tie as tie
 
-pub is-cathode-spec : {M : Type 1} → statement M
-unfolding changesCathode
-is-cathode-spec =
+pub is_cathode_spec : {M : Type 1} → statement M
+unfolding changes_cathode
+is_cathode_spec =
     tie.close
     (tie.spec
     (λ c. search rules)

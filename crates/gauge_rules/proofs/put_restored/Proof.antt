@@ -1,13 +1,13 @@
 -- `gauge_rules::put_restored` meets its contract.
 use borrow.Author.Rules.{rules}
-use Rattle.settings.specs.Settings.{restoreOf, changedBy}
-use Rattle.gauge_rules.specs.RulesV2.{enterV2}
+use Rattle.settings.specs.Settings.{restore_of, changed_by}
+use Rattle.gauge_rules.specs.RulesV2.{enter_v2}
 use Rattle.gauge_rules.proofs.put_restored.Statement.{statement}
 use Rattle.gauge_rules.proofs.put_restored.Tie as tie
 
-pub put-restored-spec : {M : Type 1} → statement M
-unfolding restoreOf changedBy enterV2
-put-restored-spec =
+pub put_restored_spec : {M : Type 1} → statement M
+unfolding restore_of changed_by enter_v2
+put_restored_spec =
     tie.close
     (tie.spec
     (λ c. search rules)
@@ -20,4 +20,4 @@ put-restored-spec =
     (λ c h list. rw c.enum-told2.given.1)
     (λ c h list. rw c.enum-told3.given.1)
     (λ c h list. rw c.enum-told4.given.1)
-    (λ c h list. rw (c.before.before.command.given.1, c.factory-value.ensures)))
+    (λ c h list. rw (c.before.before.command.given.1, c.factory_value.ensures)))

@@ -1,12 +1,12 @@
 -- `gauge_rules::reads_faulty` meets its contract.
 use borrow.Author.Rules.{rules}
-use Rattle.gauge_rules.specs.RulesV2.{readsFaulty}
+use Rattle.gauge_rules.specs.RulesV2.{reads_faulty}
 use Rattle.gauge_rules.proofs.reads_faulty.Statement.{statement}
 use Rattle.gauge_rules.proofs.reads_faulty.Tie as tie
 
-pub reads-faulty-spec : {M : Type 1} → statement M
-unfolding readsFaulty
-reads-faulty-spec =
+pub reads_faulty_spec : {M : Type 1} → statement M
+unfolding reads_faulty
+reads_faulty_spec =
     tie.close
     (tie.spec
     (λ c. search rules)

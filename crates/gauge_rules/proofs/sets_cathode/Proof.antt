@@ -1,12 +1,12 @@
 -- `gauge_rules::sets_cathode` meets its contract.
 use borrow.Author.Rules.{rules}
-use Rattle.gauge_rules.specs.RulesV2.{changesCathode}
+use Rattle.gauge_rules.specs.RulesV2.{changes_cathode}
 use Rattle.gauge_rules.proofs.sets_cathode.Statement.{statement}
 use Rattle.gauge_rules.proofs.sets_cathode.Tie as tie
 
-pub sets-cathode-spec : {M : Type 1} → statement M
-unfolding changesCathode
-sets-cathode-spec =
+pub sets_cathode_spec : {M : Type 1} → statement M
+unfolding changes_cathode
+sets_cathode_spec =
     tie.close
     (tie.spec
     (λ c. search rules)

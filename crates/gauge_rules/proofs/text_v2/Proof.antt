@@ -1,13 +1,13 @@
 -- `gauge_rules::text_v2` meets its contract.
 use borrow.Author.Rules.{rules}
 use Rattle.buffer.specs.Text.{text_of}
-use Rattle.gauge_rules.specs.RulesV2.{textV2}
+use Rattle.gauge_rules.specs.RulesV2.{text_v2}
 use Rattle.gauge_rules.proofs.text_v2.Statement.{statement}
 use Rattle.gauge_rules.proofs.text_v2.Tie as tie
 
-pub text-v2-spec : {M : Type 1} → statement M
-unfolding textV2 text_of
-text-v2-spec =
+pub text_v2_spec : {M : Type 1} → statement M
+unfolding text_v2 text_of
+text_v2_spec =
     tie.close
     (tie.spec
     (λ c. search rules)

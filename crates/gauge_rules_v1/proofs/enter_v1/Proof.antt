@@ -5,9 +5,9 @@ use Rattle.sources.specs.Source.{list_of, Counted}
 use Rattle.gauge_rules_v1.proofs.enter_v1.Statement.{statement}
 use Rattle.gauge_rules_v1.proofs.enter_v1.Tie as tie
 
-pub enter-v1-spec : {M : Type 1} → statement M
+pub enter_v1_spec : {M : Type 1} → statement M
 unfolding list_of Counted
-enter-v1-spec =
+enter_v1_spec =
     tie.close
     (tie.spec
     (λ c κs. search rules)

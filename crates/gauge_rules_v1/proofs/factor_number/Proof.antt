@@ -3,13 +3,13 @@ use mathlib.Core.Path.{refl, sym, ◌∙◌}
 use borrow.Author.Rules.{rules}
 use borrow.Author.Tests.{not-true, not-false}
 use Rattle.buffer.specs.First.{pick}
-use Rattle.gauge_rules_v1.specs.RulesV1.{factorNumber}
+use Rattle.gauge_rules_v1.specs.RulesV1.{factor_number}
 use Rattle.gauge_rules_v1.proofs.factor_number.Statement.{statement}
 use Rattle.gauge_rules_v1.proofs.factor_number.Tie as tie
 
-pub factor-number-spec : {M : Type 1} → statement M
-unfolding factorNumber pick
-factor-number-spec =
+pub factor_number_spec : {M : Type 1} → statement M
+unfolding factor_number pick
+factor_number_spec =
     tie.close
     (tie.spec
     (λ c. rw c.if1.true refl)

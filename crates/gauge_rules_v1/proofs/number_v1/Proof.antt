@@ -2,13 +2,13 @@
 use mathlib.Core.Path.{refl, sym, ◌∙◌}
 use borrow.Author.Rules.{rules}
 use Rattle.buffer.specs.First.{pick}
-use Rattle.gauge_rules_v1.specs.RulesV1.{grantV1}
+use Rattle.gauge_rules_v1.specs.RulesV1.{grant_v1}
 use Rattle.gauge_rules_v1.proofs.number_v1.Statement.{statement}
 use Rattle.gauge_rules_v1.proofs.number_v1.Tie as tie
 
-pub number-v1-spec : {M : Type 1} → statement M
-unfolding grantV1 pick
-number-v1-spec =
+pub number_v1_spec : {M : Type 1} → statement M
+unfolding grant_v1 pick
+number_v1_spec =
     tie.close
     (tie.spec
     (λ c. search rules)

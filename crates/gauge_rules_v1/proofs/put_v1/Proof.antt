@@ -1,20 +1,20 @@
 -- `gauge_rules_v1::put_v1` meets its contract.
 use borrow.Author.Rules.{rules}
 use Rattle.buffer.specs.First.{pick}
-use Rattle.settings.specs.Settings.{put_of, changedBy}
-use Rattle.gauge_rules_v1.specs.RulesV1.{grantV1, enterV1, settingsV1}
+use Rattle.settings.specs.Settings.{put_of, changed_by}
+use Rattle.gauge_rules_v1.specs.RulesV1.{grant_v1, enter_v1, settings_v1}
 use Rattle.gauge_rules_v1.proofs.Laws.{either}
 use Rattle.gauge_rules_v1.proofs.put_v1.Statement.{statement}
 use Rattle.gauge_rules_v1.proofs.put_v1.Tie as tie
 
 -- a measurement enters nothing, faulty or not
 measure : tie.Need-returns
-unfolding settingsV1 enterV1 changedBy
+unfolding settings_v1 enter_v1 changed_by
 measure c list = rw c.enum_told.given.1 (either _ _)
 
-pub put-v1-spec : {M : Type 1} → statement M
-unfolding settingsV1 grantV1 enterV1 put_of changedBy pick
-put-v1-spec =
+pub put_v1_spec : {M : Type 1} → statement M
+unfolding settings_v1 grant_v1 enter_v1 put_of changed_by pick
+put_v1_spec =
     tie.close
     (tie.spec
     (λ c. search rules)

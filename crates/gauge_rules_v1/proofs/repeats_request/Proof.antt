@@ -5,9 +5,9 @@ use Rattle.gauge_rules_v1.specs.RulesV1.{repeats}
 use Rattle.gauge_rules_v1.proofs.repeats_request.Statement.{statement}
 use Rattle.gauge_rules_v1.proofs.repeats_request.Tie as tie
 
-pub repeats-request-spec : {M : Type 1} → statement M
+pub repeats_request_spec : {M : Type 1} → statement M
 unfolding repeats
-repeats-request-spec =
+repeats_request_spec =
     tie.close
     (tie.spec
     (λ c. search rules)

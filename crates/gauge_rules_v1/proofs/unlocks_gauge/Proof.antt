@@ -5,9 +5,9 @@ use Rattle.gauge_rules_v1.specs.RulesV1.{unlocks}
 use Rattle.gauge_rules_v1.proofs.unlocks_gauge.Statement.{statement}
 use Rattle.gauge_rules_v1.proofs.unlocks_gauge.Tie as tie
 
-pub unlocks-gauge-spec : {M : Type 1} → statement M
+pub unlocks_gauge_spec : {M : Type 1} → statement M
 unfolding unlocks
-unlocks-gauge-spec =
+unlocks_gauge_spec =
     tie.close
     (tie.spec
     (λ c. search rules)

@@ -11,8 +11,8 @@ use lib.ListN.{length, drop, get_or, length-append, drop_of_length-le}
 use lib.Seq.{sets}
 use Rattle.buffer.specs.Byte.{at}
 use Rattle.buffer.proofs.Laws.{then}
-use Rattle.line.specs.Rows.{rowText, tailRows}
-use Rattle.line.proofs.Laws.{left, tail-stop, tail_step}
+use Rattle.line.specs.Rows.{row_text, tail_rows}
+use Rattle.line.proofs.Laws.{left, tail_stop, tail_step}
 use Rattle.line.proofs.put_tail.Statement.{statement}
 use Rattle.line.proofs.put_tail.Tie as tie
 
@@ -22,8 +22,8 @@ invariant-loop out₀ at rows p₀ i₀ out p i =
     × (i ≤ 8)
     × (p + 12 ≤ at + 12 * i)
     × (length out ≡ length out₀)
-    × (p + length (tailRows (drop i rows)) ≡ at + length (tailRows (drop 1 rows)))
-    × (sets out p (tailRows (drop i rows)) ≡ sets out₀ at (tailRows (drop 1 rows)))
+    × (p + length (tail_rows (drop i rows)) ≡ at + length (tail_rows (drop 1 rows)))
+    × (sets out p (tail_rows (drop i rows)) ≡ sets out₀ at (tail_rows (drop 1 rows)))
 
 abbrev decreases-loop : tie.decreases-loop
 decreases-loop out₀ at rows p₀ i₀ out p i = 8 - i
@@ -42,15 +42,15 @@ loop-again c =
     let row = get_or rows l.i [] in
     let some : eqb (at row 0) 0 ≡ false = ne_eqb _ _ d.before.before.before.if1.false in
     let e = tail_step rows l.i (omega (arith, length-rows s)) some in
-    let n = length-append ((59 ∷ []) ++ rowText row) (tailRows (drop (l.i + 1) rows)) in
-    let next : r.put-row.result ≡ l.p + 1 + length (rowText row) = r.put-row.ensures.1.0 in
+    let n = length-append ((59 ∷ []) ++ row_text row) (tail_rows (drop (l.i + 1) rows)) in
+    let next : r.put-row.result ≡ l.p + 1 + length (row_text row) = r.put-row.ensures.1.0 in
     let stored = then (l.p + 1) d.put.ensures refl r.put-row.ensures.0 in (
       omega arith,
       omega arith,
       omega (arith, r.put-row.ensures.1.1),
       omega arith,
       omega (arith, next, n, rw e at l.invariant.4),
-      left r.put-row.result (tailRows (drop (l.i + 1) rows)) stored (omega (arith, next)) ∙ rw e at l.invariant.5,
+      left r.put-row.result (tail_rows (drop (l.i + 1) rows)) stored (omega (arith, next)) ∙ rw e at l.invariant.5,
     )
 
 returns : tie.Need-returns invariant-loop decreases-loop
@@ -59,11 +59,11 @@ returns c =
     let s = c.before.before.before.before.before in
     let rows = s.args.t3 in
     let empty : eqb (at (get_or rows l.i []) 0) 0 ≡ true = eq-eqb _ _ c.if1.true in
-    let e = tail-stop rows l.i (omega (arith, length-rows s)) empty in
+    let e = tail_stop rows l.i (omega (arith, length-rows s)) empty in
     (record { memory = rw e at l.invariant.5 }, omega (arith, rw e at l.invariant.4))
 
 returns-2 : tie.Need-returns-2 invariant-loop decreases-loop
-unfolding tailRows
+unfolding tail_rows
 returns-2 c =
     let l = c.before.loop in
     let s = c.before.before.before in
@@ -71,8 +71,8 @@ returns-2 c =
     let e : drop l.i rows ≡ [] = drop_of_length-le rows {i = l.i} (omega (arith, length-rows s)) in
     (record { memory = rw e at l.invariant.5 }, omega (arith, rw e at l.invariant.4))
 
-pub put-tail-spec : {M : Type 1} → statement M
-put-tail-spec =
+pub put_tail_spec : {M : Type 1} → statement M
+put_tail_spec =
     tie.close
     (tie.spec
     invariant-loop

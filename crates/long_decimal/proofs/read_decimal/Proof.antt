@@ -1,13 +1,13 @@
 -- `long_decimal::read_decimal` meets its contract.
 use borrow.Author.Rules.{rules}
 use Rattle.buffer.proofs.Rules.{past, stop, flag}
-use Rattle.long_decimal.specs.Long.{decimalOf}
+use Rattle.long_decimal.specs.Long.{decimal_of}
 use Rattle.long_decimal.proofs.read_decimal.Statement.{statement}
 use Rattle.long_decimal.proofs.read_decimal.Tie as tie
 
-pub read-decimal-spec : {M : Type 1} → statement M
-unfolding decimalOf
-read-decimal-spec =
+pub read_decimal_spec : {M : Type 1} → statement M
+unfolding decimal_of
+read_decimal_spec =
     tie.close
     (tie.spec
     (λ c κs. search rules)

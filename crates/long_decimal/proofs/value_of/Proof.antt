@@ -4,7 +4,7 @@ use native.Mathlib.Omega.{arith}
 use borrow.Author.Rules.{rules}
 use borrow.Author.Tests.{le-leb, lt-leb}
 use Rattle.buffer.proofs.Rules.{past, stop}
-use Rattle.long_decimal.specs.Long.{movedOf, decimalValue}
+use Rattle.long_decimal.specs.Long.{moved_of, decimal_value}
 use Rattle.long_decimal.proofs.Laws.{SmallScan, exponent_small}
 use Rattle.long_decimal.proofs.value_of.Statement.{statement}
 use Rattle.long_decimal.proofs.value_of.Tie as tie
@@ -24,20 +24,20 @@ add-t11 c =
     omega (arith, m.down, a.requires.1)
 
 returns-2 : tie.Need-returns-2
-unfolding decimalValue movedOf
+unfolding decimal_value moved_of
 returns-2 c =
     let r = c.before.before.before.before.before in
-    past _ _ _ _ (lt-leb 1000000 _ r.before.if1.false) (ap (movedOf _ _) (sym c.before.before.before.x.given.1 ∙ r.read-exponent.ensures))
+    past _ _ _ _ (lt-leb 1000000 _ r.before.if1.false) (ap (moved_of _ _) (sym c.before.before.before.x.given.1 ∙ r.read-exponent.ensures))
 
 returns-3 : tie.Need-returns-3
-unfolding decimalValue movedOf
+unfolding decimal_value moved_of
 returns-3 c =
     let r = c.before.before in
-    past _ _ _ _ (lt-leb 1000000 _ r.before.if1.false) (ap (movedOf _ _) (sym c.enum_told.given.1 ∙ r.read-exponent.ensures))
+    past _ _ _ _ (lt-leb 1000000 _ r.before.if1.false) (ap (moved_of _ _) (sym c.enum_told.given.1 ∙ r.read-exponent.ensures))
 
-pub value-of-spec : {M : Type 1} → statement M
-unfolding decimalValue
-value-of-spec =
+pub value_of_spec : {M : Type 1} → statement M
+unfolding decimal_value
+value_of_spec =
     tie.close
     (tie.spec
     (λ c. stop _ _ _ _ (le-leb 1000000 _ c.if1.true) refl)

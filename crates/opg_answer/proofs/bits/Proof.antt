@@ -5,6 +5,6 @@ use Rattle.opg_answer.specs.Reply.{bits_of}
 use Rattle.opg_answer.proofs.bits.Statement.{statement}
 use Rattle.opg_answer.proofs.bits.Tie as tie
 
-pub bits-spec : {M : Type 1} → statement M
+pub bits_spec : {M : Type 1} → statement M
 unfolding bits_of
-bits-spec = tie.close (tie.spec (λ c. search rules) (λ c. search rules) (λ c. sym (ap bits_of c.before.p.given.1)) (λ c. sym (ap bits_of c.enum_told.given.1)))
+bits_spec = tie.close (tie.spec (λ c. search rules) (λ c. search rules) (λ c. sym (ap bits_of c.before.p.given.1)) (λ c. sym (ap bits_of c.enum_told.given.1)))

@@ -6,9 +6,9 @@ use Rattle.opg_answer.specs.Inner.{replied}
 use Rattle.opg_answer.proofs.reply.Statement.{statement}
 use Rattle.opg_answer.proofs.reply.Tie as tie
 
-pub reply-spec : {M : Type 1} → statement M
+pub reply_spec : {M : Type 1} → statement M
 unfolding replied
-reply-spec =
+reply_spec =
     tie.close
     (tie.spec
     (λ c. search rules)

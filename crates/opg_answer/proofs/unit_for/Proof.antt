@@ -4,6 +4,6 @@ use Rattle.opg_answer.specs.Reply.{unit_of}
 use Rattle.opg_answer.proofs.unit_for.Statement.{statement}
 use Rattle.opg_answer.proofs.unit_for.Tie as tie
 
-pub unit-for-spec : {M : Type 1} → statement M
+pub unit_for_spec : {M : Type 1} → statement M
 unfolding unit_of
-unit-for-spec = tie.close (tie.spec (λ c. search rules) (λ c. search rules))
+unit_for_spec = tie.close (tie.spec (λ c. search rules) (λ c. search rules))

@@ -6,7 +6,7 @@ use borrow.Author.Rules.{rules}
 use lib.ListN.{length}
 use Rattle.buffer.proofs.Laws.{then, refuses, sends}
 use Rattle.opg_frame_writer.specs.Written.{frame}
-use Rattle.opg_frame_writer.proofs.Laws.{length-frame, seals, no_room, too_long, too_many, fits}
+use Rattle.opg_frame_writer.proofs.Laws.{length_frame, seals, no_room, too_long, too_many, fits}
 use Rattle.opg_frame_writer.proofs.write_frame.Statement.{statement}
 use Rattle.opg_frame_writer.proofs.write_frame.Tie as tie
 
@@ -18,7 +18,7 @@ returns-4 c =
     let a = head.before.before.before.before.before.before.before.before.args in
     let d = a.bytes.now in
     let body = then 10 head.put.ensures (omega arith) two.put2.ensures in
-    let n = length-frame a.id a.header a.cmd a.pid d in
+    let n = length_frame a.id a.header a.cmd a.pid d in
     sends
     a.number
     (length d + 12)
@@ -27,14 +27,14 @@ returns-4 c =
     (sym n)
     (rw n (omega arith))
 
-pub write-frame-spec : {M : Type 1} → statement M
-write-frame-spec =
+pub write_frame_spec : {M : Type 1} → statement M
+write_frame_spec =
     tie.close
     (tie.spec
     (λ c. refuses _ 21 (no_room _ _ _ _ (omega arith)))
     (λ c. search rules)
-    (λ c. refuses _ 21 (too_long _ _ _ _ (omega arith) (rw length-frame (omega arith))))
-    (λ c. refuses _ 22 (too_many _ _ _ _ (omega arith) (rw length-frame (omega arith)) (omega arith)))
+    (λ c. refuses _ 21 (too_long _ _ _ _ (omega arith) (rw length_frame (omega arith))))
+    (λ c. refuses _ 22 (too_many _ _ _ _ (omega arith) (rw length_frame (omega arith)) (omega arith)))
     (λ c. search rules)
     (λ c. search rules)
     (λ c. search rules)

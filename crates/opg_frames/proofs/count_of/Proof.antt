@@ -5,6 +5,6 @@ use Rattle.opg_frames.specs.Frame.{count_of}
 use Rattle.opg_frames.proofs.count_of.Statement.{statement}
 use Rattle.opg_frames.proofs.count_of.Tie as tie
 
-pub count-of-spec : {M : Type 1} → statement M
+pub count_of_spec : {M : Type 1} → statement M
 unfolding count_of
-count-of-spec = tie.close (tie.spec (λ c. omega arith) (λ c. search rules))
+count_of_spec = tie.close (tie.spec (λ c. omega arith) (λ c. search rules))

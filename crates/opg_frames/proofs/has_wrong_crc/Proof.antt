@@ -5,22 +5,22 @@ use Prim.Native.Nat.{◌-◌}
 use native.Mathlib.Omega.{arith}
 use borrow.Author.Rules.{rules}
 use lib.ListN.{length, drop, length-take, length-drop}
-use Rattle.buffer.proofs.Laws.{same-lengths}
-use Rattle.opg_frames.specs.Frame.{body, crcBytes, wrongCrc}
+use Rattle.buffer.proofs.Laws.{same_lengths}
+use Rattle.opg_frames.specs.Frame.{body, crc_bytes, wrong_crc}
 use Rattle.opg_frames.proofs.has_wrong_crc.Statement.{statement}
 use Rattle.opg_frames.proofs.has_wrong_crc.Tie as tie
 
 -- fewer than two bytes are no CRC
 returns : tie.Need-returns
-unfolding crcBytes wrongCrc
+unfolding crc_bytes wrong_crc
 returns c =
     let s = c.before.before.args.s.now in
     let end = drop (length s - 2) s in
-    ap not (sym (same-lengths end (crcBytes (body s)) (λ (e : length end ≡ 2). omega (arith, length-drop (length s - 2) s))))
+    ap not (sym (same_lengths end (crc_bytes (body s)) (λ (e : length end ≡ 2). omega (arith, length-drop (length s - 2) s))))
 
-pub has-wrong-crc-spec : {M : Type 1} → statement M
-unfolding crcBytes wrongCrc
-has-wrong-crc-spec =
+pub has_wrong_crc_spec : {M : Type 1} → statement M
+unfolding crc_bytes wrong_crc
+has_wrong_crc_spec =
     tie.close
     (tie.spec
     returns

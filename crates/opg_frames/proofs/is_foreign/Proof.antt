@@ -6,9 +6,9 @@ use Rattle.opg_frames.proofs.Laws.{ors}
 use Rattle.opg_frames.proofs.is_foreign.Statement.{statement}
 use Rattle.opg_frames.proofs.is_foreign.Tie as tie
 
-pub is-foreign-spec : {M : Type 1} → statement M
+pub is_foreign_spec : {M : Type 1} → statement M
 unfolding address_of id_of foreign
-is-foreign-spec =
+is_foreign_spec =
     tie.close
     (tie.spec
     (λ c κs. search rules)

@@ -4,9 +4,9 @@ use Rattle.opg_frames.specs.Frame.{idx_of, indexed}
 use Rattle.opg_frames.proofs.is_indexed.Statement.{statement}
 use Rattle.opg_frames.proofs.is_indexed.Tie as tie
 
-pub is-indexed-spec : {M : Type 1} → statement M
+pub is_indexed_spec : {M : Type 1} → statement M
 unfolding idx_of indexed
-is-indexed-spec =
+is_indexed_spec =
     tie.close
     (tie.spec
     (λ c κs. search rules)

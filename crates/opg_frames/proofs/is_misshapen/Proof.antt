@@ -1,14 +1,14 @@
 -- `opg_frames::is_misshapen` meets its contract.
 use borrow.Author.Rules.{rules}
 use Rattle.buffer.proofs.Rules.{rules}
-use Rattle.opg_frames.specs.Frame.{reservedOf, misshapen}
+use Rattle.opg_frames.specs.Frame.{reserved_of, misshapen}
 use Rattle.opg_frames.proofs.Laws.{ors}
 use Rattle.opg_frames.proofs.is_misshapen.Statement.{statement}
 use Rattle.opg_frames.proofs.is_misshapen.Tie as tie
 
-pub is-misshapen-spec : {M : Type 1} → statement M
-unfolding misshapen reservedOf
-is-misshapen-spec =
+pub is_misshapen_spec : {M : Type 1} → statement M
+unfolding misshapen reserved_of
+is_misshapen_spec =
     tie.close
     (tie.spec
     (λ c κs. search rules)

@@ -4,9 +4,9 @@ use Rattle.opg_frames.specs.Frame.{len_of}
 use Rattle.opg_frames.proofs.len_of.Statement.{statement}
 use Rattle.opg_frames.proofs.len_of.Tie as tie
 
-pub len-of-spec : {M : Type 1} → statement M
+pub len_of_spec : {M : Type 1} → statement M
 unfolding len_of
-len-of-spec =
+len_of_spec =
     tie.close
     (tie.spec
     (λ c κs. search rules)

@@ -1,12 +1,12 @@
 -- `opg_frames::pid_of` meets its contract.
 use borrow.Author.Rules.{rules}
-use Rattle.opg_frames.specs.Frame.{pidOf}
+use Rattle.opg_frames.specs.Frame.{pid_of}
 use Rattle.opg_frames.proofs.pid_of.Statement.{statement}
 use Rattle.opg_frames.proofs.pid_of.Tie as tie
 
-pub pid-of-spec : {M : Type 1} → statement M
-unfolding pidOf
-pid-of-spec =
+pub pid_of_spec : {M : Type 1} → statement M
+unfolding pid_of
+pid_of_spec =
     tie.close
     (tie.spec
     (λ c κs. search rules)

@@ -5,9 +5,9 @@ use Rattle.opg_gauge.specs.State.{takes}
 use Rattle.opg_gauge.proofs.is_taken.Statement.{statement}
 use Rattle.opg_gauge.proofs.is_taken.Tie as tie
 
-pub is-taken-spec : {M : Type 1} → statement M
+pub is_taken_spec : {M : Type 1} → statement M
 unfolding takes
-is-taken-spec =
+is_taken_spec =
     tie.close
     (tie.spec
     (λ c. search rules)

@@ -5,18 +5,18 @@ use borrow.Author.Rules.{rules}
 use borrow.Author.Tests.{ne_eqb}
 use lib.Dec.{eqb}
 use Rattle.buffer.proofs.Rules.{not_eqb}
-use Rattle.opg_frames.specs.Frame.{cmdOf}
-use Rattle.opg_commands.specs.Request.{replyCmd}
-use Rattle.opg_replies.specs.Reply.{otherReply}
+use Rattle.opg_frames.specs.Frame.{cmd_of}
+use Rattle.opg_commands.specs.Request.{reply_cmd}
+use Rattle.opg_replies.specs.Reply.{other_reply}
 use Rattle.opg_replies.proofs.is_other_reply.Statement.{statement}
 use Rattle.opg_replies.proofs.is_other_reply.Tie as tie
 
-same-cmd : (c : tie.Else1) → not (eqb (cmdOf c.before.before.before.before.args.s.now) (replyCmd c.before.before.before.before.args.r)) ≡ false
+same-cmd : (c : tie.Else1) → not (eqb (cmd_of c.before.before.before.before.args.s.now) (reply_cmd c.before.before.before.before.args.r)) ≡ false
 same-cmd c = rw (← c.before.before.cmd-of.ensures, ← c.before.reply-cmd.ensures) (not_eqb _ _ c.if1.false)
 
-pub is-other-reply-spec : {M : Type 1} → statement M
-unfolding otherReply
-is-other-reply-spec =
+pub is_other_reply_spec : {M : Type 1} → statement M
+unfolding other_reply
+is_other_reply_spec =
     tie.close
     (tie.spec
     (λ c κs. search rules)

@@ -2,13 +2,13 @@
 use Rattle.buffer.proofs.Rules.{past, stop, flag}
 use mathlib.Core.Path.{refl}
 use borrow.Author.Rules.{rules}
-use Rattle.opg_replies.specs.Reply.{neededOf}
+use Rattle.opg_replies.specs.Reply.{needed_of}
 use Rattle.opg_replies.proofs.needed.Statement.{statement}
 use Rattle.opg_replies.proofs.needed.Tie as tie
 
-pub needed-spec : {M : Type 1} → statement M
-unfolding neededOf
-needed-spec =
+pub needed_spec : {M : Type 1} → statement M
+unfolding needed_of
+needed_spec =
     tie.close
     (tie.spec
     (λ c κs. search rules)

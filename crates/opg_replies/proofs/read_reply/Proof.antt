@@ -5,7 +5,7 @@ use borrow.Author.Rules.{rules}
 use lib.ListN.{take}
 use Rattle.buffer.specs.First.{first}
 use Rattle.buffer.proofs.Rules.{past, stop, flag, unflag}
-use Rattle.opg_replies.specs.Reply.{replyRows, read_of}
+use Rattle.opg_replies.specs.Reply.{reply_rows, read_of}
 use Rattle.opg_replies.specs.declared.Reply.TheVariants.{Error}
 use Rattle.opg_replies.specs.declared.ReadOpg.{ReadOpg}
 use Rattle.opg_replies.specs.declared.ReadOpg.TheVariants.{Read}
@@ -13,33 +13,33 @@ use Rattle.opg_replies.proofs.read_reply.Statement.{statement}
 use Rattle.opg_replies.proofs.read_reply.Tie as tie
 
 -- past the first n tests, all of which failed
-past1 : (c : tie.Else1) (a z : ReadOpg) → a ≡ z → a ≡ first (take 1 (replyRows c.before.before.before.args.r c.before.before.before.args.s.now)) z
+past1 : (c : tie.Else1) (a z : ReadOpg) → a ≡ z → a ≡ first (take 1 (reply_rows c.before.before.before.args.r c.before.before.before.args.s.now)) z
 past1 c a z h = past _ _ _ _ (flag _ _ _ c.before.is-misshapen.ensures c.if1.false) h
 
-past2 : (c : tie.Else2) (a z : ReadOpg) → a ≡ z → a ≡ first (take 2 (replyRows c.before.before.before.before.before.args.r c.before.before.before.before.before.args.s.now)) z
+past2 : (c : tie.Else2) (a z : ReadOpg) → a ≡ z → a ≡ first (take 2 (reply_rows c.before.before.before.before.before.args.r c.before.before.before.before.before.args.s.now)) z
 past2 c a z h = past1 c.before.before a _ (past _ _ _ _ (flag _ _ _ c.before.is-foreign.ensures c.if2.false) h)
 
-past3 : (c : tie.Else3) (a z : ReadOpg) → a ≡ z → a ≡ first (take 3 (replyRows c.before.before.before.before.before.before.before.args.r c.before.before.before.before.before.before.before.args.s.now)) z
+past3 : (c : tie.Else3) (a z : ReadOpg) → a ≡ z → a ≡ first (take 3 (reply_rows c.before.before.before.before.before.before.before.args.r c.before.before.before.before.before.before.before.args.s.now)) z
 past3 c a z h = past2 c.before.before a _ (past _ _ _ _ (flag _ _ _ c.before.has-wrong-crc.ensures c.if3.false) h)
 
-past4 : (c : tie.Else4) (a z : ReadOpg) → a ≡ z → a ≡ first (take 4 (replyRows c.before.before.before.before.before.before.before.before.before.args.r c.before.before.before.before.before.before.before.before.before.args.s.now)) z
+past4 : (c : tie.Else4) (a z : ReadOpg) → a ≡ z → a ≡ first (take 4 (reply_rows c.before.before.before.before.before.before.before.before.before.args.r c.before.before.before.before.before.before.before.before.before.args.s.now)) z
 past4 c a z h = past3 c.before.before a _ (past _ _ _ _ (flag _ _ _ c.before.has-wrong-version.ensures c.if4.false) h)
 
-past5 : (c : tie.Else5) (a z : ReadOpg) → a ≡ z → a ≡ first (take 5 (replyRows c.before.before.before.before.before.before.before.before.before.before.before.args.r c.before.before.before.before.before.before.before.before.before.before.before.args.s.now)) z
+past5 : (c : tie.Else5) (a z : ReadOpg) → a ≡ z → a ≡ first (take 5 (reply_rows c.before.before.before.before.before.before.before.before.before.before.before.args.r c.before.before.before.before.before.before.before.before.before.before.before.args.s.now)) z
 past5 c a z h = past4 c.before.before a _ (past _ _ _ _ (unflag _ _ _ c.before.is-acknowledge.ensures c.if5.false) h)
 
-past6 : (c : tie.Else6) (a z : ReadOpg) → a ≡ z → a ≡ first (take 6 (replyRows c.before.before.before.before.before.before.before.before.before.before.before.before.before.args.r c.before.before.before.before.before.before.before.before.before.before.before.before.before.args.s.now)) z
+past6 : (c : tie.Else6) (a z : ReadOpg) → a ≡ z → a ≡ first (take 6 (reply_rows c.before.before.before.before.before.before.before.before.before.before.before.before.before.args.r c.before.before.before.before.before.before.before.before.before.before.before.before.before.args.s.now)) z
 past6 c a z h = past5 c.before.before a _ (past _ _ _ _ (flag _ _ _ c.before.is-other-reply.ensures c.if6.false) h)
 
-past7 : (c : tie.Else7) (a z : ReadOpg) → a ≡ z → a ≡ first (take 7 (replyRows c.before.before.before.before.before.before.before.before.before.before.before.before.before.before.before.args.r c.before.before.before.before.before.before.before.before.before.before.before.before.before.before.before.args.s.now)) z
+past7 : (c : tie.Else7) (a z : ReadOpg) → a ≡ z → a ≡ first (take 7 (reply_rows c.before.before.before.before.before.before.before.before.before.before.before.before.before.before.before.args.r c.before.before.before.before.before.before.before.before.before.before.before.before.before.before.before.args.s.now)) z
 past7 c a z h = past6 c.before.before a _ (past _ _ _ _ (flag _ _ _ c.before.has-wrong-count.ensures c.if7.false) h)
 
-past8 : (c : tie.Else8) (a z : ReadOpg) → a ≡ z → a ≡ first (take 8 (replyRows c.before.before.before.before.before.before.before.before.before.before.before.before.before.before.before.before.before.args.r c.before.before.before.before.before.before.before.before.before.before.before.before.before.before.before.before.before.args.s.now)) z
+past8 : (c : tie.Else8) (a z : ReadOpg) → a ≡ z → a ≡ first (take 8 (reply_rows c.before.before.before.before.before.before.before.before.before.before.before.before.before.before.before.before.before.args.r c.before.before.before.before.before.before.before.before.before.before.before.before.before.before.before.before.before.args.s.now)) z
 past8 c a z h = past7 c.before.before a _ (past _ _ _ _ (flag _ _ _ c.before.is-error.ensures c.if8.false) h)
 
-pub read-reply-spec : {M : Type 1} → statement M
+pub read_reply_spec : {M : Type 1} → statement M
 unfolding read_of
-read-reply-spec =
+read_reply_spec =
     tie.close
     (tie.spec
     (λ c κs. search rules)

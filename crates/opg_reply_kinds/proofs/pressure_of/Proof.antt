@@ -5,15 +5,15 @@ use borrow.Author.Rules.{rules}
 use Rattle.buffer.specs.First.{pick}
 use Rattle.buffer.proofs.Rules.{past}
 use Rattle.opg_replies.specs.declared.ReadOpg.TheVariants.{Read, Refused}
-use Rattle.opg_replies.specs.Reply.{readShown}
-use Rattle.opg_reply_kinds.specs.Kind.{asMeasured, expected}
+use Rattle.opg_replies.specs.Reply.{read_shown}
+use Rattle.opg_reply_kinds.specs.Kind.{as_measured, expected}
 use Rattle.opg_reply_kinds.proofs.Laws.{apart}
 use Rattle.opg_reply_kinds.proofs.pressure_of.Statement.{statement}
 use Rattle.opg_reply_kinds.proofs.pressure_of.Tie as tie
 
-pub pressure-of-spec : {M : Type 1} → statement M
-unfolding asMeasured expected readShown pick
-pressure-of-spec =
+pub pressure_of_spec : {M : Type 1} → statement M
+unfolding as_measured expected read_shown pick
+pressure_of_spec =
     tie.close
     (tie.spec
     (λ c. search rules)

@@ -5,15 +5,15 @@ use borrow.Author.Rules.{rules}
 use Rattle.buffer.specs.First.{pick}
 use Rattle.buffer.proofs.Rules.{past}
 use Rattle.opg_replies.specs.declared.ReadOpg.TheVariants.{Read, Refused}
-use Rattle.opg_replies.specs.Reply.{readShown}
-use Rattle.opg_reply_kinds.specs.Kind.{asUnit, expected}
+use Rattle.opg_replies.specs.Reply.{read_shown}
+use Rattle.opg_reply_kinds.specs.Kind.{as_unit, expected}
 use Rattle.opg_reply_kinds.proofs.Laws.{apart}
 use Rattle.opg_reply_kinds.proofs.unit_of.Statement.{statement}
 use Rattle.opg_reply_kinds.proofs.unit_of.Tie as tie
 
-pub unit-of-spec : {M : Type 1} → statement M
-unfolding asUnit expected readShown pick
-unit-of-spec =
+pub unit_of_spec : {M : Type 1} → statement M
+unfolding as_unit expected read_shown pick
+unit_of_spec =
     tie.close
     (tie.spec
     (λ c. search rules)

@@ -5,9 +5,9 @@ use Rattle.opg_request_reader.specs.Asked.{outside}
 use Rattle.opg_request_reader.proofs.has_value_outside.Statement.{statement}
 use Rattle.opg_request_reader.proofs.has_value_outside.Tie as tie
 
-pub has-value-outside-spec : {M : Type 1} → statement M
+pub has_value_outside_spec : {M : Type 1} → statement M
 unfolding outside
-has-value-outside-spec =
+has_value_outside_spec =
     tie.close
     (tie.spec
     (λ c κs. search rules)

@@ -3,13 +3,13 @@ use mathlib.Core.Path.{ap}
 use mathlib.Core.Bool.{not}
 use borrow.Author.Tests.{eq-eqb, ne_eqb}
 use borrow.Author.Rules.{rules}
-use Rattle.opg_request_reader.specs.Asked.{wrongMode}
+use Rattle.opg_request_reader.specs.Asked.{wrong_mode}
 use Rattle.opg_request_reader.proofs.has_wrong_mode.Statement.{statement}
 use Rattle.opg_request_reader.proofs.has_wrong_mode.Tie as tie
 
-pub has-wrong-mode-spec : {M : Type 1} → statement M
-unfolding wrongMode
-has-wrong-mode-spec =
+pub has_wrong_mode_spec : {M : Type 1} → statement M
+unfolding wrong_mode
+has_wrong_mode_spec =
     tie.close
     (tie.spec
     (λ c κs. search rules)

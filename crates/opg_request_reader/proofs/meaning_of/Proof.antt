@@ -5,9 +5,9 @@ use Rattle.opg_request_reader.specs.Asked.{meaning}
 use Rattle.opg_request_reader.proofs.meaning_of.Statement.{statement}
 use Rattle.opg_request_reader.proofs.meaning_of.Tie as tie
 
-pub meaning-of-spec : {M : Type 1} → statement M
+pub meaning_of_spec : {M : Type 1} → statement M
 unfolding meaning
-meaning-of-spec =
+meaning_of_spec =
     tie.close
     (tie.spec
     (λ c κs. search rules)

@@ -1,13 +1,13 @@
 -- `opg_request_reader::needed` meets its contract.
 use borrow.Author.Rules.{rules}
 use Rattle.buffer.proofs.Rules.{rules}
-use Rattle.opg_request_reader.specs.Asked.{neededOf}
+use Rattle.opg_request_reader.specs.Asked.{needed_of}
 use Rattle.opg_request_reader.proofs.needed.Statement.{statement}
 use Rattle.opg_request_reader.proofs.needed.Tie as tie
 
-pub needed-spec : {M : Type 1} → statement M
-unfolding neededOf
-needed-spec =
+pub needed_spec : {M : Type 1} → statement M
+unfolding needed_of
+needed_spec =
     tie.close
     (tie.spec
     (λ c κs. search rules)

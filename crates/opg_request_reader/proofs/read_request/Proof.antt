@@ -44,9 +44,9 @@ past10 c a r h = past9 c.before.before a _ (past _ _ _ _ (flag _ _ _ c.before.ha
 past11 : (c : tie.Else11) (a r : Asked) → a ≡ r → a ≡ first (take 11 (refusals c.before.before.before.before.before.before.before.before.before.before.before.before.before.before.before.before.before.before.before.before.before.before.before.args.s.now)) r
 past11 c a r h = past10 c.before.before a _ (past _ _ _ _ (flag _ _ _ c.before.has-value-outside.ensures c.if11.false) h)
 
-pub read-request-spec : {M : Type 1} → statement M
+pub read_request_spec : {M : Type 1} → statement M
 unfolding asked_of
-read-request-spec =
+read_request_spec =
     tie.close
     (tie.spec
     (λ c κs. search rules)

@@ -5,13 +5,13 @@ use native.Mathlib.Omega.{arith}
 use borrow.Author.Rules.{rules}
 use lib.ListN.{length, length-take}
 use Rattle.buffer.proofs.Laws.{refuses}
-use Rattle.opg_request_writer.proofs.Laws.{data_is, count-le, no_room, outside, sent}
+use Rattle.opg_request_writer.proofs.Laws.{data_is, count_le, no_room, outside, sent}
 use Rattle.opg_request_writer.proofs.write_request.Statement.{statement}
 use Rattle.opg_request_writer.proofs.write_request.Tie as tie
 
 -- the data are a part of the bytes
 part : (c : tie.After-request-count) → c.request-count.result ≤ length c.before.request-bytes.result
-part c = rw (c.request-count.ensures, c.before.request-bytes.ensures) (count-le _)
+part c = rw (c.request-count.ensures, c.before.request-bytes.ensures) (count_le _)
 
 returns-3 : tie.Need-returns-3
 returns-3 c =
@@ -24,8 +24,8 @@ returns-3 c =
     (rw (pid.request-pid.ensures, pid.before.request-cmd.ensures, count.request-count.ensures, count.before.request-bytes.ensures, data_is a.r)
     at c.before.before.write-request-frame.ensures)
 
-pub write-request-spec : {M : Type 1} → statement M
-write-request-spec =
+pub write_request_spec : {M : Type 1} → statement M
+write_request_spec =
     tie.close
     (tie.spec
     (λ c. refuses _ 21 (no_room _ _ c.if1.true))

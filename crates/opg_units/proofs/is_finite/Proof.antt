@@ -4,6 +4,6 @@ use Rattle.opg_units.specs.Units.{finite}
 use Rattle.opg_units.proofs.is_finite.Statement.{statement}
 use Rattle.opg_units.proofs.is_finite.Tie as tie
 
-pub is-finite-spec : {M : Type 1} → statement M
+pub is_finite_spec : {M : Type 1} → statement M
 unfolding finite
-is-finite-spec = tie.close (tie.spec (λ c. refl))
+is_finite_spec = tie.close (tie.spec (λ c. refl))

@@ -9,8 +9,8 @@ returns c = rw c.before.before.before.before.enum_told.given.1 c.before.before.a
 returns-2 : tie.Need-returns-2
 returns-2 c = rw c.before.before.before.before.enum-told2.given.1 c.before.before.ask-opg.ensures
 
-pub ask-spec : {M : Type 1} → statement M
-ask-spec =
+pub ask_spec : {M : Type 1} → statement M
+ask_spec =
     tie.close
     (tie.spec
     (λ c. search rules)

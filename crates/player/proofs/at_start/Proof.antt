@@ -6,7 +6,7 @@ use Rattle.player.proofs.at_start.Statement.{statement}
 use Rattle.player.proofs.at_start.Tie as tie
 
 returns : tie.Need-returns
-returns c = (record { of-text-gauge = text.begin c.before.at-start.ensures.0.0; of-opg-gauge = opg.begin c.at-start2.ensures }, c.before.at-start.ensures.0.1)
+returns c = (record { of_text_gauge = text.begin c.before.at-start.ensures.0.0; of_opg_gauge = opg.begin c.at-start2.ensures }, c.before.at-start.ensures.0.1)
 
-pub at-start-spec : {M : Type 1} → statement M
-at-start-spec = tie.close (tie.spec (λ c κs. search rules) (λ c κs. search rules) returns)
+pub at_start_spec : {M : Type 1} → statement M
+at_start_spec = tie.close (tie.spec (λ c κs. search rules) (λ c κs. search rules) returns)

@@ -4,7 +4,7 @@ use native.Mathlib.Omega.{arith}
 use borrow.Author.Rules.{rules}
 use lib.ListN.{length}
 use Rattle.script.specs.Script.{Fits}
-use Rattle.player.proofs.Turns.{part-short, read, request-one, line-one, setting-one, opg-bench-one, no_room, none_left}
+use Rattle.player.proofs.Turns.{part_short, read, request_one, line_one, setting_one, opg_bench_one, no_room, none_left}
 use Rattle.player.proofs.one.Statement.{statement}
 use Rattle.player.proofs.one.Tie as tie
 
@@ -35,14 +35,14 @@ ask-requires c κs =
     let m = c.before.before.before.before in
     let x = m.before.before.before.before.before.args in
     let k = read (Fits (length x.script.now) x.at) _ m.before.before.call_at.ensures m.to.given.1 in
-    part-short x.memory.now x.used _ k.1.0
+    part_short x.memory.now x.used _ k.1.0
 
 returns-3 : tie.Need-returns-3
 returns-3 c =
     let m = c.before.before.before.before.before.before.before in
     let x = m.before.before.before.before.before.args in
     let k = read (Fits (length x.script.now) x.at) _ m.before.before.call_at.ensures m.to.given.1 in
-    request-one x.script.now x.memory.now x.g x.at x.used _ _ _ _ _ k.1.1 k.0 (omega (arith, c.before.before.before.before.before.if1.false)) c.before.before.ask.ensures
+    request_one x.script.now x.memory.now x.g x.at x.used _ _ _ _ _ k.1.1 k.0 (omega (arith, c.before.before.before.before.before.if1.false)) c.before.before.ask.ensures
 
 -- the stream line
 returns-2 : tie.Need-returns-2
@@ -57,14 +57,14 @@ show-requires c κs =
     let m = c.before.before.before in
     let x = m.before.before.before.before.before.args in
     let k = read (Fits (length x.script.now) x.at) _ m.before.before.call_at.ensures m.room.given.1 in
-    part-short x.memory.now x.used _ k.1.0
+    part_short x.memory.now x.used _ k.1.0
 
 returns-4 : tie.Need-returns-4
 returns-4 c =
     let m = c.before.before.before.before.before.before in
     let x = m.before.before.before.before.before.args in
     let k = read (Fits (length x.script.now) x.at) _ m.before.before.call_at.ensures m.room.given.1 in
-    line-one x.script.now x.memory.now x.g x.at x.used _ _ _ k.1.1 k.0 (omega (arith, c.before.before.before.before.if2.false)) c.before.before.show.ensures
+    line_one x.script.now x.memory.now x.g x.at x.used _ _ _ k.1.1 k.0 (omega (arith, c.before.before.before.before.if2.false)) c.before.before.show.ensures
 
 -- bench settings
 returns-5 : tie.Need-returns-5
@@ -72,14 +72,14 @@ returns-5 c =
     let m = c.before.before in
     let x = m.before.before.before.before.before.args in
     let k = read (Fits (length x.script.now) x.at) _ m.before.before.call_at.ensures m.b.given.1 in
-    setting-one x.script.now x.memory.now x.g x.at x.used _ _ k.1 k.0 (omega arith) c.set-bench.ensures
+    setting_one x.script.now x.memory.now x.g x.at x.used _ _ k.1 k.0 (omega arith) c.set-bench.ensures
 
 returns-6 : tie.Need-returns-6
 returns-6 c =
     let m = c.before.before in
     let x = m.before.before.before.before.before.args in
     let k = read (Fits (length x.script.now) x.at) _ m.before.before.call_at.ensures m.p.given.1 in
-    opg-bench-one x.script.now x.memory.now x.g x.at x.used _ _ k.1 k.0 (omega arith) c.set-opg-bench.ensures
+    opg_bench_one x.script.now x.memory.now x.g x.at x.used _ _ k.1 k.0 (omega arith) c.set-opg-bench.ensures
 
 -- no whole call
 returns-7 : tie.Need-returns-7

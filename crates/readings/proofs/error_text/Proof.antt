@@ -1,13 +1,13 @@
 -- `readings::error_text` meets its contract.
 use borrow.Author.Rules.{rules}
 use Rattle.buffer.specs.Text.{text_of, cut}
-use Rattle.error_texts.specs.Texts.{errorBytes}
+use Rattle.error_texts.specs.Texts.{error_bytes}
 use Rattle.readings.proofs.error_text.Statement.{statement}
 use Rattle.readings.proofs.error_text.Tie as tie
 
-pub error-text-spec : {M : Type 1} → statement M
-unfolding text_of cut errorBytes
-error-text-spec =
+pub error_text_spec : {M : Type 1} → statement M
+unfolding text_of cut error_bytes
+error_text_spec =
     tie.close
     (tie.spec
     (λ c κs. search rules)

@@ -4,13 +4,13 @@ use mathlib.Core.Path.{refl}
 use native.Mathlib.Omega.{arith}
 use borrow.Author.Tests.{le-leb, lt-leb}
 use Rattle.buffer.proofs.Rules.{stop, past}
-use Rattle.readings.specs.Bench.{benchOf}
+use Rattle.readings.specs.Bench.{bench_of}
 use Rattle.readings.proofs.judge_bench.Statement.{statement}
 use Rattle.readings.proofs.judge_bench.Tie as tie
 
-pub judge-bench-spec : {M : Type 1} → statement M
-unfolding benchOf
-judge-bench-spec =
+pub judge_bench_spec : {M : Type 1} → statement M
+unfolding bench_of
+judge_bench_spec =
     tie.close
     (tie.spec
     (λ c. search rules)

@@ -1,13 +1,13 @@
 -- `readings::measure_text` meets its contract.
 use borrow.Author.Rules.{rules}
 use Rattle.buffer.specs.Text.{text_of, cut}
-use Rattle.readings.specs.Measure.{measureText}
+use Rattle.readings.specs.Measure.{measure_text}
 use Rattle.readings.proofs.measure_text.Statement.{statement}
 use Rattle.readings.proofs.measure_text.Tie as tie
 
-pub measure-text-spec : {M : Type 1} → statement M
-unfolding text_of cut measureText
-measure-text-spec =
+pub measure_text_spec : {M : Type 1} → statement M
+unfolding text_of cut measure_text
+measure_text_spec =
     tie.close
     (tie.spec
     (λ c. search rules)

@@ -10,20 +10,20 @@ use Rattle.decimal.specs.declared.Parsed.TheVariants.{Value, Syntax, Range}
 use Rattle.decimal.specs.contracts.Parsed.{the_type}
 use Rattle.readings.specs.declared.Benched.TheVariants.{Refused}
 use Rattle.buffer.proofs.Rules.{stop, past, unflag}
-use Rattle.readings.specs.Bench.{pressureOf}
+use Rattle.readings.specs.Bench.{pressure_of}
 use Rattle.readings.proofs.pressure_of.Statement.{statement}
 use Rattle.readings.proofs.pressure_of.Tie as tie
 
 -- a number that was not read: its tag is not the first
-other : (code : ℕ) (p : Parsed) → OneOf (1 ∷ 2 ∷ []) (tag_of the_type p) → Refused ≡ pressureOf code p
-unfolding pressureOf
+other : (code : ℕ) (p : Parsed) → OneOf (1 ∷ 2 ∷ []) (tag_of the_type p) → Refused ≡ pressure_of code p
+unfolding pressure_of
 other code (Value n) h = absurd (miss (1 ∷ 2 ∷ []) 0 tt h)
 other code Syntax h = refl
 other code Range h = refl
 
-pub pressure-of-spec : {M : Type 1} → statement M
-unfolding pressureOf
-pressure-of-spec =
+pub pressure_of_spec : {M : Type 1} → statement M
+unfolding pressure_of
+pressure_of_spec =
     tie.close
     (tie.spec
     (λ c. search rules)

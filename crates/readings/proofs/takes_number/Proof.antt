@@ -5,9 +5,9 @@ use Rattle.readings.specs.Bench.{takes}
 use Rattle.readings.proofs.takes_number.Statement.{statement}
 use Rattle.readings.proofs.takes_number.Tie as tie
 
-pub takes-number-spec : {M : Type 1} → statement M
+pub takes_number_spec : {M : Type 1} → statement M
 unfolding takes
-takes-number-spec =
+takes_number_spec =
     tie.close
     (tie.spec
     (λ c. rw (eq-eqb _ 7 c.if1.true))

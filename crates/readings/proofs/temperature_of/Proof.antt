@@ -9,20 +9,20 @@ use Rattle.decimal.specs.declared.Parsed.{Parsed}
 use Rattle.decimal.specs.declared.Parsed.TheVariants.{Value, Syntax, Range}
 use Rattle.decimal.specs.contracts.Parsed.{the_type}
 use Rattle.readings.specs.declared.Benched.TheVariants.{Refused}
-use Rattle.readings.specs.Bench.{temperatureOf}
+use Rattle.readings.specs.Bench.{temperature_of}
 use Rattle.readings.proofs.temperature_of.Statement.{statement}
 use Rattle.readings.proofs.temperature_of.Tie as tie
 
 -- a number that was not read: its tag is not the first
-other : (code : ℕ) (p : Parsed) → OneOf (1 ∷ 2 ∷ []) (tag_of the_type p) → Refused ≡ temperatureOf code p
-unfolding temperatureOf
+other : (code : ℕ) (p : Parsed) → OneOf (1 ∷ 2 ∷ []) (tag_of the_type p) → Refused ≡ temperature_of code p
+unfolding temperature_of
 other code (Value n) h = absurd (miss (1 ∷ 2 ∷ []) 0 tt h)
 other code Syntax h = refl
 other code Range h = refl
 
-pub temperature-of-spec : {M : Type 1} → statement M
-unfolding temperatureOf
-temperature-of-spec =
+pub temperature_of_spec : {M : Type 1} → statement M
+unfolding temperature_of
+temperature_of_spec =
     tie.close
     (tie.spec
     (λ c. search rules)

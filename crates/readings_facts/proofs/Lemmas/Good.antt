@@ -7,17 +7,17 @@ use native.Mathlib.Omega.{arith}
 use borrow.Author.Tests.{ltb-false, leb-false, eqb-true, not-false}
 use lib.Dec.{eqb, leb}
 use Rattle.buffer.proofs.Rules.{each}
-use Rattle.decimal.specs.Exact.{units, zeroNumber, normalOf}
-use Rattle.decimal.specs.Number.{belowOf, hundredthsOf}
+use Rattle.decimal.specs.Exact.{units, zero_number, normal_of}
+use Rattle.decimal.specs.Number.{below_of, hundredths_of}
 use Rattle.decimal.specs.declared.Number.{Number}
 use Rattle.decimal.specs.declared.Parsed.{Parsed}
 use Rattle.decimal.specs.declared.Parsed.TheVariants.{Value, Syntax, Range}
 use Rattle.decimal.specs.declared.Hundredths.{Hundredths}
 use Rattle.decimal.specs.declared.Hundredths.TheVariants.{Whole, Other}
-use Rattle.decimal.proofs.Sizes.{units-pos}
+use Rattle.decimal.proofs.Sizes.{units_pos}
 use Rattle.decimal_facts.specs.Canonical.{Canonical}
-use Rattle.decimal_facts.proofs.Value.{exact, hundredths-exactly}
-use Rattle.readings.specs.Bench.{takes, pressureAt, temperatureAt, pressureOf, degreesOf, temperatureOf, benchOf, outsideDegrees, mostDegrees}
+use Rattle.decimal_facts.proofs.Value.{exact, hundredths_exactly}
+use Rattle.readings.specs.Bench.{takes, pressure_at, temperature_at, pressure_of, degrees_of, temperature_of, bench_of, outside_degrees, most_degrees}
 use Rattle.readings.specs.declared.Pressure.{Pressure}
 use Rattle.readings.specs.declared.Pressure.TheVariants.{Measured}
 use Rattle.readings.specs.declared.Temperature.{Temperature}
@@ -27,7 +27,7 @@ use Rattle.readings.specs.declared.Bench.{Bench}
 use Rattle.readings.specs.declared.Bench.TheVariants.{Reads, Status}
 use Rattle.readings.specs.declared.Benched.{Benched}
 use Rattle.readings.specs.declared.Benched.TheVariants.{Accepted, Refused}
-use Rattle.settings.specs.Limits.{benchLimits}
+use Rattle.settings.specs.Limits.{bench_limits}
 use Rattle.readings_facts.specs.Sound.{SoundPressure, SoundSeven, SoundTemperature, SoundReading}
 
 -- an answer that accepts what is sound only
@@ -36,73 +36,73 @@ Good (Accepted x) = SoundReading x
 Good Refused = Unit {0}
 
 -- a code that another test found is not 7
-not-seven : (code k : ℕ) → eqb code k ≡ true → eqb k 7 ≡ false → eqb code 7 ≡ false
-not-seven code k e h = rw (eqb-true code k e) h
+not_seven : (code k : ℕ) → eqb code k ≡ true → eqb k 7 ≡ false → eqb code 7 ≡ false
+not_seven code k e h = rw (eqb-true code k e) h
 
-pressure-good : (code : ℕ) (p : Pressure) → (eqb code 7 ≡ false → SoundPressure p) → SoundSeven p → Good (pressureAt code p)
-unfolding pressureAt
-pressure-good code p f g =
-    each Good (eqb code 0) (Accepted (P0 p)) _ (λ e. f (not-seven code 0 e refl))
-    (λ _. each Good (eqb code 1) (Accepted (P1 p)) _ (λ e. f (not-seven code 1 e refl))
-    (λ _. each Good (eqb code 2) (Accepted (P2 p)) _ (λ e. f (not-seven code 2 e refl))
-    (λ _. each Good (eqb code 6) (Accepted (P6 p)) _ (λ e. f (not-seven code 6 e refl))
+pressure_good : (code : ℕ) (p : Pressure) → (eqb code 7 ≡ false → SoundPressure p) → SoundSeven p → Good (pressure_at code p)
+unfolding pressure_at
+pressure_good code p f g =
+    each Good (eqb code 0) (Accepted (P0 p)) _ (λ e. f (not_seven code 0 e refl))
+    (λ _. each Good (eqb code 1) (Accepted (P1 p)) _ (λ e. f (not_seven code 1 e refl))
+    (λ _. each Good (eqb code 2) (Accepted (P2 p)) _ (λ e. f (not_seven code 2 e refl))
+    (λ _. each Good (eqb code 6) (Accepted (P6 p)) _ (λ e. f (not_seven code 6 e refl))
     (λ _. each Good (eqb code 7) (Accepted (P7 p)) Refused (λ _. g) (λ _. tt)))))
 
-temperature-good : (code : ℕ) (t : Temperature) → SoundTemperature t → Good (temperatureAt code t)
-unfolding temperatureAt
-temperature-good code t h =
+temperature_good : (code : ℕ) (t : Temperature) → SoundTemperature t → Good (temperature_at code t)
+unfolding temperature_at
+temperature_good code t h =
     each Good (eqb code 8) (Accepted (T2 t)) _ (λ _. h)
     (λ _. each Good (eqb code 9) (Accepted (T6 t)) Refused (λ _. h) (λ _. tt))
 
 -- a number that a source other than 7 takes is above zero
-taken-above : (code : ℕ) (n : Number) → takes code n ≡ true → eqb code 7 ≡ false → belowOf zeroNumber n ≡ true
+taken_above : (code : ℕ) (n : Number) → takes code n ≡ true → eqb code 7 ≡ false → below_of zero_number n ≡ true
 unfolding takes
-taken-above code n h e = rw e at h
+taken_above code n h e = rw e at h
 
-number-good : (code : ℕ) (p : Parsed) → ((n : Number) → p ≡ Value n → Canonical n) → Good (pressureOf code p)
-unfolding pressureOf
-number-good code (Value n) f =
-    each Good (not (takes code n)) Refused (pressureAt code (Measured n)) (λ _. tt)
-    (λ e. pressure-good code (Measured n) (λ k. (f n refl, taken-above code n (not-false (takes code n) e) k)) (f n refl))
-number-good code Syntax f = tt
-number-good code Range f = tt
+number_good : (code : ℕ) (p : Parsed) → ((n : Number) → p ≡ Value n → Canonical n) → Good (pressure_of code p)
+unfolding pressure_of
+number_good code (Value n) f =
+    each Good (not (takes code n)) Refused (pressure_at code (Measured n)) (λ _. tt)
+    (λ e. pressure_good code (Measured n) (λ k. (f n refl, taken_above code n (not-false (takes code n) e) k)) (f n refl))
+number_good code Syntax f = tt
+number_good code Range f = tt
 
 -- what is below zero has a size
-pub negative-some : (n : Number) → Canonical n → n.negative ≡ true → 0 < units n
+pub negative_some : (n : Number) → Canonical n → n.negative ≡ true → 0 < units n
 unfolding units
-negative-some n (inl e) h = absurd (let z : ◌≡◌ {A = ℕ} 0 1 = ap (λ (b : Bool). cond b 0 1) (sym h ∙ ap (λ (k : Number). k.negative) e) in omega arith)
-negative-some n (inr f) h = units-pos n.mantissa n.place (omega (arith, f.low))
+negative_some n (inl e) h = absurd (let z : ◌≡◌ {A = ℕ} 0 1 = ap (λ (b : Bool). cond b 0 1) (sym h ∙ ap (λ (k : Number). k.negative) e) in omega arith)
+negative_some n (inr f) h = units_pos n.mantissa n.place (omega (arith, f.low))
 
 -- and so has its count of hundredths
-in-limits : (negative : Bool) (h : ℕ) → (negative ≡ true → 1 ≤ h) → h ≤ mostDegrees negative → SoundTemperature (Degrees negative h)
-in-limits true h f k = (f refl, k)
-in-limits false h f k = omega arith
+in_limits : (negative : Bool) (h : ℕ) → (negative ≡ true → 1 ≤ h) → h ≤ most_degrees negative → SoundTemperature (Degrees negative h)
+in_limits true h f k = (f refl, k)
+in_limits false h f k = omega arith
 
-degrees-good : (code : ℕ) (negative : Bool) (h : Hundredths) → ((k : ℕ) → h ≡ Whole k → negative ≡ true → 1 ≤ k) → Good (degreesOf code negative h)
-unfolding degreesOf
-degrees-good code negative (Whole h) f =
-    each Good (outsideDegrees negative h) Refused (temperatureAt code (Degrees negative h)) (λ _. tt)
-    (λ e. temperature-good code (Degrees negative h) (in-limits negative h (f h refl) (ltb-false (mostDegrees negative) h e)))
-degrees-good code negative Other f = tt
+degrees_good : (code : ℕ) (negative : Bool) (h : Hundredths) → ((k : ℕ) → h ≡ Whole k → negative ≡ true → 1 ≤ k) → Good (degrees_of code negative h)
+unfolding degrees_of
+degrees_good code negative (Whole h) f =
+    each Good (outside_degrees negative h) Refused (temperature_at code (Degrees negative h)) (λ _. tt)
+    (λ e. temperature_good code (Degrees negative h) (in_limits negative h (f h refl) (ltb-false (most_degrees negative) h e)))
+degrees_good code negative Other f = tt
 
-celsius-good : (code : ℕ) (p : Parsed) → ((n : Number) → p ≡ Value n → Canonical n) → Good (temperatureOf code p)
-unfolding temperatureOf
-celsius-good code (Value n) f = degrees-good code n.negative (hundredthsOf n) some
+celsius_good : (code : ℕ) (p : Parsed) → ((n : Number) → p ≡ Value n → Canonical n) → Good (temperature_of code p)
+unfolding temperature_of
+celsius_good code (Value n) f = degrees_good code n.negative (hundredths_of n) some
   where
-    some : (k : ℕ) → hundredthsOf n ≡ Whole k → n.negative ≡ true → 1 ≤ k
-    some k e h = omega (arith, ((hundredths-exactly n k).0 e).0, negative-some n (f n refl) h)
-celsius-good code Syntax f = tt
-celsius-good code Range f = tt
+    some : (k : ℕ) → hundredths_of n ≡ Whole k → n.negative ≡ true → 1 ≤ k
+    some k e h = omega (arith, ((hundredths_exactly n k).0 e).0, negative_some n (f n refl) h)
+celsius_good code Syntax f = tt
+celsius_good code Range f = tt
 
-pub bench-good : (b : Bench) → Good (benchOf b)
-unfolding benchOf
-bench-good (Reads code x) =
-    each Good (leb 8 code) (temperatureOf code (normalOf x)) (pressureOf code (normalOf x))
-    (λ _. celsius-good code (normalOf x) canonical) (λ _. number-good code (normalOf x) canonical)
+pub bench_good : (b : Bench) → Good (bench_of b)
+unfolding bench_of
+bench_good (Reads code x) =
+    each Good (leb 8 code) (temperature_of code (normal_of x)) (pressure_of code (normal_of x))
+    (λ _. celsius_good code (normal_of x) canonical) (λ _. number_good code (normal_of x) canonical)
   where
-    canonical : (n : Number) → normalOf x ≡ Value n → Canonical n
+    canonical : (n : Number) → normal_of x ≡ Value n → Canonical n
     canonical n e = ((exact x n).0 e).canonical
-bench-good (Bench.UnderRange code) = pressure-good code Pressure.UnderRange (λ _. tt) tt
-bench-good (Bench.OverRange code) = pressure-good code Pressure.OverRange (λ _. tt) tt
-bench-good (Bench.Faulty code) = each Good (leb 8 code) (temperatureAt code Temperature.Faulty) (pressureAt code Pressure.Faulty) (λ _. temperature-good code Temperature.Faulty tt) (λ _. pressure-good code Pressure.Faulty (λ _. tt) tt)
-bench-good (Status v) = each Good (leb (benchLimits.statusHigh + 1) v) Refused (Accepted (FS v)) (λ _. tt) (λ e. let k = leb-false (benchLimits.statusHigh + 1) v e in omega arith)
+bench_good (Bench.UnderRange code) = pressure_good code Pressure.UnderRange (λ _. tt) tt
+bench_good (Bench.OverRange code) = pressure_good code Pressure.OverRange (λ _. tt) tt
+bench_good (Bench.Faulty code) = each Good (leb 8 code) (temperature_at code Temperature.Faulty) (pressure_at code Pressure.Faulty) (λ _. temperature_good code Temperature.Faulty tt) (λ _. pressure_good code Pressure.Faulty (λ _. tt) tt)
+bench_good (Status v) = each Good (leb (bench_limits.status_high + 1) v) Refused (Accepted (FS v)) (λ _. tt) (λ e. let k = leb-false (bench_limits.status_high + 1) v e in omega arith)

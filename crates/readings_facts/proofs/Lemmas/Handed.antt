@@ -9,23 +9,23 @@ use borrow.Author.Tests.{le-ltb, lt-leb}
 use lib.Dec.{eqb, leb}
 use Rattle.buffer.specs.First.{pick}
 use Rattle.buffer.proofs.Rules.{each}
-use Rattle.decimal.specs.Exact.{units, normalOf}
-use Rattle.decimal.specs.Number.{hundredthsOf}
+use Rattle.decimal.specs.Exact.{units, normal_of}
+use Rattle.decimal.specs.Number.{hundredths_of}
 use Rattle.decimal.specs.declared.Number.{Number}
 use Rattle.decimal.specs.declared.Exact.{Exact}
 use Rattle.decimal.specs.declared.Parsed.{Parsed}
 use Rattle.decimal.specs.declared.Parsed.TheVariants.{Value, Syntax, Range}
 use Rattle.decimal.specs.declared.Hundredths as counts
 use Rattle.decimal.specs.declared.Hundredths.TheVariants.{Whole, Other}
-use Rattle.decimal.proofs.Sizes.{ten-pos, units-pos}
+use Rattle.decimal.proofs.Sizes.{ten_pos, units_pos}
 use Rattle.decimal_facts.specs.Canonical.{Canonical, Exactly}
-use Rattle.decimal_facts.proofs.Value.{answers, exact, hundredths-exactly}
-use Rattle.decimal_facts.proofs.Lemmas.Rows.{canonical-same}
-use Rattle.decimal_facts.proofs.Lemmas.Texts.{decimals-count}
-use Rattle.readings.specs.Bench.{takes, pressureAt, temperatureAt, pressureOf, degreesOf, temperatureOf, benchOf, mostDegrees}
-use Rattle.readings.specs.Place.{Place, Source0, Source1, Source2, Source6, Source7, SourceT2, SourceT6, code_of, place_of, readingAt}
+use Rattle.decimal_facts.proofs.Value.{answers, exact, hundredths_exactly}
+use Rattle.decimal_facts.proofs.Lemmas.Rows.{canonical_same}
+use Rattle.decimal_facts.proofs.Lemmas.Texts.{decimals_count}
+use Rattle.readings.specs.Bench.{takes, pressure_at, temperature_at, pressure_of, degrees_of, temperature_of, bench_of, most_degrees}
+use Rattle.readings.specs.Place.{Place, Source0, Source1, Source2, Source6, Source7, SourceT2, SourceT6, code_of, place_of, reading_at}
 use Rattle.readings.specs.Place as place
-use Rattle.readings.specs.Reading.{start, putReading}
+use Rattle.readings.specs.Reading.{start, put_reading}
 use Rattle.readings.specs.There.{names}
 use Rattle.readings.specs.declared.Pressure.{Pressure}
 use Rattle.readings.specs.declared.Pressure.TheVariants.{Measured}
@@ -38,18 +38,18 @@ use Rattle.readings.specs.declared.Bench.{Bench}
 use Rattle.readings.specs.declared.Bench.TheVariants.{Reads, Status}
 use Rattle.readings.specs.declared.Benched.{Benched}
 use Rattle.readings.specs.declared.Benched.TheVariants.{Accepted, Refused}
-use Rattle.settings.specs.Limits.{benchLimits}
+use Rattle.settings.specs.Limits.{bench_limits}
 use Rattle.readings_facts.specs.Handed.{Hundredths, HandedPressure, value, under, over, faulty, HandedTemperature, degrees, failed, Handed}
-use Rattle.readings_facts.proofs.Places.{get-put}
+use Rattle.readings_facts.proofs.Places.{get_put}
 use Rattle.readings_facts.specs.Sound.{SoundPressure, SoundTemperature, SoundReading}
-use Rattle.readings_facts.proofs.Lemmas.Good.{negative-some}
+use Rattle.readings_facts.proofs.Lemmas.Good.{negative_some}
 
 -- what is zero has no sign
-zero-plus : (n : Number) → Canonical n → units n ≡ 0 → n.negative ≡ false
-zero-plus n f z = go n.negative refl
+zero_plus : (n : Number) → Canonical n → units n ≡ 0 → n.negative ≡ false
+zero_plus n f z = go n.negative refl
   where
     go : (b : Bool) → n.negative ≡ b → n.negative ≡ false
-    go true e = absurd (omega (arith, negative-some n f e))
+    go true e = absurd (omega (arith, negative_some n f e))
     go false e = e
 
 -- a number is zero or not
@@ -58,8 +58,8 @@ by_zero zero f g = f refl
 by_zero (suc n) f g = g (omega arith)
 
 -- where the size is not zero there are digits
-some-digits : (h d u k : ℕ) → 0 < h → h * 10 ^ k ≡ d * 10 ^ u * 100 → 0 < d
-some-digits h d u k p e = by_zero d (λ (z : d ≡ 0). absurd (omega (arith, mul-pos p (ten-pos k), rw z at e))) (λ (q : 0 < d). q)
+some_digits : (h d u k : ℕ) → 0 < h → h * 10 ^ k ≡ d * 10 ^ u * 100 → 0 < d
+some_digits h d u k p e = by_zero d (λ (z : d ≡ 0). absurd (omega (arith, mul-pos p (ten_pos k), rw z at e))) (λ (q : 0 < d). q)
 
 -- ---- what is accepted was handed over
 
@@ -67,89 +67,89 @@ abbrev Overs : Bench → Benched → Type 0
 Overs b (Accepted x) = Handed b x
 Overs b Refused = Unit {0}
 
-pressure-over : (b : Bench) (code : ℕ) (p : Pressure) → HandedPressure b p → Overs b (pressureAt code p)
-unfolding pressureAt
-pressure-over b code p f =
+pressure_over : (b : Bench) (code : ℕ) (p : Pressure) → HandedPressure b p → Overs b (pressure_at code p)
+unfolding pressure_at
+pressure_over b code p f =
     each (Overs b) _ _ _ (λ _. f)
     (λ _. each (Overs b) _ _ _ (λ _. f)
     (λ _. each (Overs b) _ _ _ (λ _. f)
     (λ _. each (Overs b) _ _ _ (λ _. f)
     (λ _. each (Overs b) _ _ _ (λ _. f) (λ _. tt)))))
 
-temperature-over : (b : Bench) (code : ℕ) (t : Temperature) → HandedTemperature b t → Overs b (temperatureAt code t)
-unfolding temperatureAt
-temperature-over b code t f =
+temperature_over : (b : Bench) (code : ℕ) (t : Temperature) → HandedTemperature b t → Overs b (temperature_at code t)
+unfolding temperature_at
+temperature_over b code t f =
     each (Overs b) _ _ _ (λ _. f)
     (λ _. each (Overs b) _ _ _ (λ _. f) (λ _. tt))
 
 module _ (code : ℕ) (x : Exact) where
-  number-over : (p : Parsed) → ((n : Number) → p ≡ Value n → Exactly x n) → Overs (Reads code x) (pressureOf code p)
-  unfolding pressureOf
-  number-over (Value n) f =
-      each (Overs (Reads code x)) _ _ _ (λ _. tt) (λ _. pressure-over (Reads code x) code _ (value (f n refl)))
-  number-over Syntax f = tt
-  number-over Range f = tt
+  number_over : (p : Parsed) → ((n : Number) → p ≡ Value n → Exactly x n) → Overs (Reads code x) (pressure_of code p)
+  unfolding pressure_of
+  number_over (Value n) f =
+      each (Overs (Reads code x)) _ _ _ (λ _. tt) (λ _. pressure_over (Reads code x) code _ (value (f n refl)))
+  number_over Syntax f = tt
+  number_over Range f = tt
 
   -- a number's hundredths are the value's
-  hundredths-too : (n : Number) (h : ℕ) → Exactly x n → hundredthsOf n ≡ Whole h → Hundredths x n.negative h
-  hundredths-too n h f e =
-      let u = ((hundredths-exactly n h).0 e).0 in
+  hundredths_too : (n : Number) (h : ℕ) → Exactly x n → hundredths_of n ≡ Whole h → Hundredths x n.negative h
+  hundredths_too n h f e =
+      let u = ((hundredths_exactly n h).0 e).0 in
       let s : h * 10 ^ 12 * 10 ^ x.down ≡ x.digits * 10 ^ x.up * 10 ^ 14 = rw u at f.size in
       record {
         size = omega arith;
-        sign = λ (k : 0 < h). f.sign (some-digits h x.digits x.up x.down k (omega arith));
-        zero = λ (z : h ≡ 0). zero-plus n f.canonical (omega arith);
+        sign = λ (k : 0 < h). f.sign (some_digits h x.digits x.up x.down k (omega arith));
+        zero = λ (z : h ≡ 0). zero_plus n f.canonical (omega arith);
       }
 
-  degrees-over : (negative : Bool) (h : counts.Hundredths) → ((k : ℕ) → h ≡ Whole k → Hundredths x negative k) → Overs (Reads code x) (degreesOf code negative h)
-  unfolding degreesOf
-  degrees-over negative (Whole h) f =
-      each (Overs (Reads code x)) _ _ _ (λ _. tt) (λ _. temperature-over (Reads code x) code _ (degrees (f h refl)))
-  degrees-over negative Other f = tt
+  degrees_over : (negative : Bool) (h : counts.Hundredths) → ((k : ℕ) → h ≡ Whole k → Hundredths x negative k) → Overs (Reads code x) (degrees_of code negative h)
+  unfolding degrees_of
+  degrees_over negative (Whole h) f =
+      each (Overs (Reads code x)) _ _ _ (λ _. tt) (λ _. temperature_over (Reads code x) code _ (degrees (f h refl)))
+  degrees_over negative Other f = tt
 
-  celsius-over : (p : Parsed) → ((n : Number) → p ≡ Value n → Exactly x n) → Overs (Reads code x) (temperatureOf code p)
-  unfolding temperatureOf
-  celsius-over (Value n) f = degrees-over n.negative (hundredthsOf n) (λ k e. hundredths-too n k (f n refl) e)
-  celsius-over Syntax f = tt
-  celsius-over Range f = tt
+  celsius_over : (p : Parsed) → ((n : Number) → p ≡ Value n → Exactly x n) → Overs (Reads code x) (temperature_of code p)
+  unfolding temperature_of
+  celsius_over (Value n) f = degrees_over n.negative (hundredths_of n) (λ k e. hundredths_too n k (f n refl) e)
+  celsius_over Syntax f = tt
+  celsius_over Range f = tt
 
-all-over : (b : Bench) → Overs b (benchOf b)
-unfolding benchOf
-all-over (Reads code x) =
+all_over : (b : Bench) → Overs b (bench_of b)
+unfolding bench_of
+all_over (Reads code x) =
     each (Overs (Reads code x)) _ _ _
-    (λ _. celsius-over code x (normalOf x) (λ n. (exact x n).0)) (λ _. number-over code x (normalOf x) (λ n. (exact x n).0))
-all-over (Bench.UnderRange code) = pressure-over (Bench.UnderRange code) code _ under
-all-over (Bench.OverRange code) = pressure-over (Bench.OverRange code) code _ over
-all-over (Bench.Faulty code) =
-    each (Overs (Bench.Faulty code)) _ _ _ (λ _. temperature-over (Bench.Faulty code) code _ failed) (λ _. pressure-over (Bench.Faulty code) code _ faulty)
-all-over (Status v) = each (Overs (Status v)) _ _ _ (λ _. tt) (λ _. refl)
+    (λ _. celsius_over code x (normal_of x) (λ n. (exact x n).0)) (λ _. number_over code x (normal_of x) (λ n. (exact x n).0))
+all_over (Bench.UnderRange code) = pressure_over (Bench.UnderRange code) code _ under
+all_over (Bench.OverRange code) = pressure_over (Bench.OverRange code) code _ over
+all_over (Bench.Faulty code) =
+    each (Overs (Bench.Faulty code)) _ _ _ (λ _. temperature_over (Bench.Faulty code) code _ failed) (λ _. pressure_over (Bench.Faulty code) code _ faulty)
+all_over (Status v) = each (Overs (Status v)) _ _ _ (λ _. tt) (λ _. refl)
 
-pub handed-over : (b : Bench) (x : Reading) → benchOf b ≡ Accepted x → Handed b x
-handed-over b x e = rw e at (all-over b)
+pub handed_over : (b : Bench) (x : Reading) → bench_of b ≡ Accepted x → Handed b x
+handed_over b x e = rw e at (all_over b)
 
 -- ---- what is handed over, and allowed, is accepted
 
 -- at a pressure source
-pressure-back : {b : Bench} {p : Pressure} (code : ℕ) (x : Reading) → some code ≡ names b → leb 8 code ≡ false → ((n : Number) → p ≡ Measured n → takes code n ≡ true)
-    → pressureAt code p ≡ Accepted x → HandedPressure b p → benchOf b ≡ Accepted x
-unfolding benchOf names pressureOf pick
-pressure-back code x e l t a (value {code = c} {x = y} {n = n} f) =
+pressure_back : {b : Bench} {p : Pressure} (code : ℕ) (x : Reading) → some code ≡ names b → leb 8 code ≡ false → ((n : Number) → p ≡ Measured n → takes code n ≡ true)
+    → pressure_at code p ≡ Accepted x → HandedPressure b p → bench_of b ≡ Accepted x
+unfolding bench_of names pressure_of pick
+pressure_back code x e l t a (value {code = c} {x = y} {n = n} f) =
     let k : code ≡ c = cc in
     rw (← k, l, (exact y n).1 f, t n refl) a
-pressure-back code x e l t a (under {code = c}) = let k : code ≡ c = cc in rw (← k) a
-pressure-back code x e l t a (over {code = c}) = let k : code ≡ c = cc in rw (← k) a
-pressure-back code x e l t a (faulty {code = c}) = let k : code ≡ c = cc in rw (← k, l) a
+pressure_back code x e l t a (under {code = c}) = let k : code ≡ c = cc in rw (← k) a
+pressure_back code x e l t a (over {code = c}) = let k : code ≡ c = cc in rw (← k) a
+pressure_back code x e l t a (faulty {code = c}) = let k : code ≡ c = cc in rw (← k, l) a
 
 -- and where there are digits the size is not zero
 some_size : (h d u k : ℕ) → 0 < d → h * 10 ^ k ≡ d * 10 ^ u * 100 → 0 < h
-some_size h d u k p e = by_zero h (λ (z : h ≡ 0). absurd (omega (arith, units-pos d u p, rw z at e))) (λ (q : 0 < h). q)
+some_size h d u k p e = by_zero h (λ (z : h ≡ 0). absurd (omega (arith, units_pos d u p, rw z at e))) (λ (q : 0 < h). q)
 
 -- h hundredths as a number
-hundredths-number : (x : Exact) (negative : Bool) (h : ℕ) → h < 100000 → Hundredths x negative h
-    → (n : Number) × Exactly x n × (hundredthsOf n ≡ Whole h) × (n.negative ≡ negative)
-hundredths-number x negative h k f =
+hundredths_number : (x : Exact) (negative : Bool) (h : ℕ) → h < 100000 → Hundredths x negative h
+    → (n : Number) × Exactly x n × (hundredths_of n ≡ Whole h) × (n.negative ≡ negative)
+hundredths_number x negative h k f =
     let y : Exact = record { negative = cond (eqb h 0) false x.negative; digits = h; up = 0; down = 2 } in
-    let w = decimals-count x.negative h (normalOf y) k (answers y) in
+    let w = decimals_count x.negative h (normal_of y) k (answers y) in
     let g = (exact y w.0).0 w.1 in
     let u : units w.0 ≡ h * 10 ^ 12 = omega (arith, g.size) in (
       w.0,
@@ -163,89 +163,89 @@ hundredths-number x negative h k f =
     )
   where
     signed : (n : Number) → Canonical n → units n ≡ h * 10 ^ 12 → (0 < h → n.negative ≡ x.negative) → n.negative ≡ negative
-    signed n c u e = by_zero h (λ (z : h ≡ 0). zero-plus n c (omega arith) ∙ sym (f.zero z)) (λ (p : 0 < h). e p ∙ sym (f.sign p))
+    signed n c u e = by_zero h (λ (z : h ≡ 0). zero_plus n c (omega arith) ∙ sym (f.zero z)) (λ (p : 0 < h). e p ∙ sym (f.sign p))
 
-within-limit : (negative : Bool) (h : ℕ) → SoundTemperature (Degrees negative h) → h ≤ mostDegrees negative
-within-limit true h s = s.1
-within-limit false h s = omega arith
+within_limit : (negative : Bool) (h : ℕ) → SoundTemperature (Degrees negative h) → h ≤ most_degrees negative
+within_limit true h s = s.1
+within_limit false h s = omega arith
 
-at_most : (negative : Bool) → mostDegrees negative < 100000
+at_most : (negative : Bool) → most_degrees negative < 100000
 at_most true = omega arith
 at_most false = omega arith
 
 -- at a temperature source
-temperature-back : {b : Bench} {t : Temperature} (code : ℕ) (x : Reading) → some code ≡ names b → leb 8 code ≡ true → SoundTemperature t
-    → temperatureAt code t ≡ Accepted x → HandedTemperature b t → benchOf b ≡ Accepted x
-unfolding benchOf names temperatureOf degreesOf pick
-temperature-back code x e l s a (degrees {code = c} {x = y} {negative = negative} {h = h} f) =
+temperature_back : {b : Bench} {t : Temperature} (code : ℕ) (x : Reading) → some code ≡ names b → leb 8 code ≡ true → SoundTemperature t
+    → temperature_at code t ≡ Accepted x → HandedTemperature b t → bench_of b ≡ Accepted x
+unfolding bench_of names temperature_of degrees_of pick
+temperature_back code x e l s a (degrees {code = c} {x = y} {negative = negative} {h = h} f) =
     let k : code ≡ c = cc in
-    let i = within-limit negative h s in
-    let w = hundredths-number y negative h (omega (arith, at_most negative)) f in
-    rw (← k, l, (exact y w.0).1 w.1, w.2, w.3, le-ltb (mostDegrees negative) h i) a
-temperature-back code x e l s a (failed {code = c}) = let k : code ≡ c = cc in rw (← k, l) a
+    let i = within_limit negative h s in
+    let w = hundredths_number y negative h (omega (arith, at_most negative)) f in
+    rw (← k, l, (exact y w.0).1 w.1, w.2, w.3, le-ltb (most_degrees negative) h i) a
+temperature_back code x e l s a (failed {code = c}) = let k : code ≡ c = cc in rw (← k, l) a
 
-or-true : (b : Bool) → (b || true) ≡ true
-or-true true = refl
-or-true false = refl
+or_true : (b : Bool) → (b || true) ≡ true
+or_true true = refl
+or_true false = refl
 
 taken : (code : ℕ) (p : Pressure) → SoundPressure p → (n : Number) → p ≡ Measured n → takes code n ≡ true
 unfolding takes
-taken code (Measured k) s n e = let q : k ≡ n = cc in rw (← q, s.1) (or-true (eqb code 7))
+taken code (Measured k) s n e = let q : k ≡ n = cc in rw (← q, s.1) (or_true (eqb code 7))
 taken code Pressure.UnderRange s n e = absurd (let z : ◌≡◌ {A = ℕ} 0 1 = cc in omega arith)
 taken code Pressure.OverRange s n e = absurd (let z : ◌≡◌ {A = ℕ} 0 1 = cc in omega arith)
 taken code Pressure.Faulty s n e = absurd (let z : ◌≡◌ {A = ℕ} 0 1 = cc in omega arith)
 
-pub handed-back : (b : Bench) (x : Reading) → names b ≡ code_of (place_of x) → Handed b x → SoundReading x → benchOf b ≡ Accepted x
-unfolding code_of place_of pressureAt temperatureAt benchOf takes pick
-handed-back b (P0 p) e f s = pressure-back 0 (P0 p) (sym e) refl (taken 0 p s) refl f
-handed-back b (P1 p) e f s = pressure-back 1 (P1 p) (sym e) refl (taken 1 p s) refl f
-handed-back b (P2 p) e f s = pressure-back 2 (P2 p) (sym e) refl (taken 2 p s) refl f
-handed-back b (P6 p) e f s = pressure-back 6 (P6 p) (sym e) refl (taken 6 p s) refl f
-handed-back b (P7 p) e f s = pressure-back 7 (P7 p) (sym e) refl (λ n _. refl) refl f
-handed-back b (T2 t) e f s = temperature-back 8 (T2 t) (sym e) refl s refl f
-handed-back b (T6 t) e f s = temperature-back 9 (T6 t) (sym e) refl s refl f
-handed-back b (FS v) e f s = rw (f, lt-leb (benchLimits.statusHigh + 1) v (omega arith))
+pub handed_back : (b : Bench) (x : Reading) → names b ≡ code_of (place_of x) → Handed b x → SoundReading x → bench_of b ≡ Accepted x
+unfolding code_of place_of pressure_at temperature_at bench_of takes pick
+handed_back b (P0 p) e f s = pressure_back 0 (P0 p) (sym e) refl (taken 0 p s) refl f
+handed_back b (P1 p) e f s = pressure_back 1 (P1 p) (sym e) refl (taken 1 p s) refl f
+handed_back b (P2 p) e f s = pressure_back 2 (P2 p) (sym e) refl (taken 2 p s) refl f
+handed_back b (P6 p) e f s = pressure_back 6 (P6 p) (sym e) refl (taken 6 p s) refl f
+handed_back b (P7 p) e f s = pressure_back 7 (P7 p) (sym e) refl (λ n _. refl) refl f
+handed_back b (T2 t) e f s = temperature_back 8 (T2 t) (sym e) refl s refl f
+handed_back b (T6 t) e f s = temperature_back 9 (T6 t) (sym e) refl s refl f
+handed_back b (FS v) e f s = rw (f, lt-leb (bench_limits.status_high + 1) v (omega arith))
 
 -- ---- what is handed over fixes the reading
 
-exactly-one : (x : Exact) (a b : Number) → Exactly x a → Exactly x b → a ≡ b
-exactly-one x a b f g =
-    let u = eq_of_mul-eq-mul_right (10 ^ x.down) (ten-pos x.down) (units a) (units b) (f.size ∙ sym g.size) in
-    canonical-same a b f.canonical g.canonical u (λ (p : 0 < units a). let d = digits_in p in f.sign d ∙ sym (g.sign d))
+exactly_one : (x : Exact) (a b : Number) → Exactly x a → Exactly x b → a ≡ b
+exactly_one x a b f g =
+    let u = eq_of_mul-eq-mul_right (10 ^ x.down) (ten_pos x.down) (units a) (units b) (f.size ∙ sym g.size) in
+    canonical_same a b f.canonical g.canonical u (λ (p : 0 < units a). let d = digits_in_lem p in f.sign d ∙ sym (g.sign d))
   where
-    digits_in : 0 < units a → 0 < x.digits
-    digits_in p = by_zero x.digits (λ (z : x.digits ≡ 0). absurd (omega (arith, mul-pos p (ten-pos x.down), rw z at f.size))) (λ (q : 0 < x.digits). q)
+    digits_in_lem : 0 < units a → 0 < x.digits
+    digits_in_lem p = by_zero x.digits (λ (z : x.digits ≡ 0). absurd (omega (arith, mul-pos p (ten_pos x.down), rw z at f.size))) (λ (q : 0 < x.digits). q)
 
-hundredths-one : (x : Exact) (s t : Bool) (h k : ℕ) → Hundredths x s h → Hundredths x t k → Degrees s h ≡ Degrees t k
-hundredths-one x s t h k f g =
-    let u = eq_of_mul-eq-mul_right (10 ^ x.down) (ten-pos x.down) h k (f.size ∙ sym g.size) in
+hundredths_one : (x : Exact) (s t : Bool) (h k : ℕ) → Hundredths x s h → Hundredths x t k → Degrees s h ≡ Degrees t k
+hundredths_one x s t h k f g =
+    let u = eq_of_mul-eq-mul_right (10 ^ x.down) (ten_pos x.down) h k (f.size ∙ sym g.size) in
     let e : s ≡ t = by_zero h (λ (z : h ≡ 0). f.zero z ∙ sym (g.zero (omega arith))) (λ (p : 0 < h). f.sign p ∙ sym (g.sign (omega arith))) in
     rw (e, u)
 
-pressure-one : {b : Bench} {p q : Pressure} → HandedPressure b p → HandedPressure b q → p ≡ q
-pressure-one (value f) (value g) = ap Measured (exactly-one _ _ _ f g)
-pressure-one under under = refl
-pressure-one over over = refl
-pressure-one faulty faulty = refl
+pressure_one : {b : Bench} {p q : Pressure} → HandedPressure b p → HandedPressure b q → p ≡ q
+pressure_one (value f) (value g) = ap Measured (exactly_one _ _ _ f g)
+pressure_one under under = refl
+pressure_one over over = refl
+pressure_one faulty faulty = refl
 
-temperature-one : {b : Bench} {t u : Temperature} → HandedTemperature b t → HandedTemperature b u → t ≡ u
-temperature-one (degrees f) (degrees g) = hundredths-one _ _ _ _ _ f g
-temperature-one failed failed = refl
+temperature_one : {b : Bench} {t u : Temperature} → HandedTemperature b t → HandedTemperature b u → t ≡ u
+temperature_one (degrees f) (degrees g) = hundredths_one _ _ _ _ _ f g
+temperature_one failed failed = refl
 
-place-one : (b : Bench) (p : Place) (r q : Readings) → Handed b (readingAt p r) → Handed b (readingAt p q) → readingAt p r ≡ readingAt p q
-unfolding readingAt
-place-one b Source0 r q f g = ap P0 (pressure-one f g)
-place-one b Source1 r q f g = ap P1 (pressure-one f g)
-place-one b Source2 r q f g = ap P2 (pressure-one f g)
-place-one b Source6 r q f g = ap P6 (pressure-one f g)
-place-one b Source7 r q f g = ap P7 (pressure-one f g)
-place-one b SourceT2 r q f g = ap T2 (temperature-one f g)
-place-one b SourceT6 r q f g = ap T6 (temperature-one f g)
-place-one b place.Status r q f g = cc
+place_one : (b : Bench) (p : Place) (r q : Readings) → Handed b (reading_at p r) → Handed b (reading_at p q) → reading_at p r ≡ reading_at p q
+unfolding reading_at
+place_one b Source0 r q f g = ap P0 (pressure_one f g)
+place_one b Source1 r q f g = ap P1 (pressure_one f g)
+place_one b Source2 r q f g = ap P2 (pressure_one f g)
+place_one b Source6 r q f g = ap P6 (pressure_one f g)
+place_one b Source7 r q f g = ap P7 (pressure_one f g)
+place_one b SourceT2 r q f g = ap T2 (temperature_one f g)
+place_one b SourceT6 r q f g = ap T6 (temperature_one f g)
+place_one b place.Status r q f g = cc
 
-pub handed-one : (b : Bench) (x y : Reading) → place_of x ≡ place_of y → Handed b x → Handed b y → x ≡ y
-handed-one b x y e f g =
-    let a = get-put start x in
-    let c : readingAt (place_of x) (putReading start y) ≡ y = rw e (get-put start y) in
-    let one = place-one b (place_of x) (putReading start x) (putReading start y) (rw a f) (rw c g) in
+pub handed_one : (b : Bench) (x y : Reading) → place_of x ≡ place_of y → Handed b x → Handed b y → x ≡ y
+handed_one b x y e f g =
+    let a = get_put start x in
+    let c : reading_at (place_of x) (put_reading start y) ≡ y = rw e (get_put start y) in
+    let one = place_one b (place_of x) (put_reading start x) (put_reading start y) (rw a f) (rw c g) in
     sym a ∙ one ∙ c

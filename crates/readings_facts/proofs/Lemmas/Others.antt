@@ -1,13 +1,13 @@
 -- Each place against each setting.
 use mathlib.Core.Path.{◌≡◌, refl}
-use Rattle.readings.specs.Reading.{putReading}
+use Rattle.readings.specs.Reading.{put_reading}
 use Rattle.readings.specs.declared.Reading.{Reading}
 use Rattle.readings.specs.declared.Reading.TheVariants.{P0, P1, P2, P6, P7, T2, T6, FS}
 use Rattle.readings.specs.declared.Readings.{Readings}
-use Rattle.readings.specs.Place.{Place, Source0, Source1, Source2, Source6, Source7, SourceT2, SourceT6, Status, place_of, readingAt}
+use Rattle.readings.specs.Place.{Place, Source0, Source1, Source2, Source6, Source7, SourceT2, SourceT6, Status, place_of, reading_at}
 
-pub others : (r : Readings) (x : Reading) (p : Place) → (p ≡ place_of x → ⊥) → readingAt p (putReading r x) ≡ readingAt p r
-unfolding putReading readingAt place_of
+pub others : (r : Readings) (x : Reading) (p : Place) → (p ≡ place_of x → ⊥) → reading_at p (put_reading r x) ≡ reading_at p r
+unfolding put_reading reading_at place_of
 others r (P0 v) Source0 h = absurd (h refl)
 others r (P0 v) Source1 h = refl
 others r (P0 v) Source2 h = refl

@@ -12,8 +12,8 @@ invariant-loop input₀ line₀ world₀ c₀ turns₀ input line world c turns 
 abbrev decreases-loop : tie.decreases-loop
 decreases-loop input₀ line₀ world₀ c₀ turns₀ input line world c turns = turns
 
-pub play-spec : {M : Type 1} → statement M
-play-spec =
+pub play_spec : {M : Type 1} → statement M
+play_spec =
     tie.close
     (tie.spec
     invariant-loop

@@ -5,25 +5,25 @@ use borrow.Author.Tests.{not-true, not-false}
 use borrow.Author.Rules.{rules}
 use lib.ListN.{length-take}
 use Rattle.buffer.specs.First.{pick}
-use Rattle.buffer.specs.Byte.{sameText}
-use Rattle.buffer.proofs.Laws.{shown, shown-le}
-use Rattle.request_texts.specs.RequestText.{dataV1}
-use Rattle.replies_v1.specs.ReplyV1.{echoV1}
+use Rattle.buffer.specs.Byte.{same_text}
+use Rattle.buffer.proofs.Laws.{shown, shown_le}
+use Rattle.request_texts.specs.RequestText.{data_v1}
+use Rattle.replies_v1.specs.ReplyV1.{echo_v1}
 use Rattle.replies_v1.proofs.read_echo.Statement.{statement}
 use Rattle.replies_v1.proofs.read_echo.Tie as tie
 
 fits : tie.Need-array-share-prefix-bytes
-fits c = shown-le c.before.before.data-v1.result c.before.size.result c.before.size.ensures
+fits c = shown_le c.before.before.data-v1.result c.before.size.result c.before.size.ensures
 
 -- the bytes that are compared are the request's own
-repeats : (c : tie.After-is-same) → c.is_same.result ≡ sameText c.before.before.before.before.before.before.args.d.now (dataV1 c.before.before.before.before.before.before.args.request)
+repeats : (c : tie.After-is-same) → c.is_same.result ≡ same_text c.before.before.before.before.before.before.args.d.now (data_v1 c.before.before.before.before.before.before.args.request)
 repeats c =
     let text = c.before.before.before.before in
     rw (shown text.data-v1.result c.before.before.before.size.result c.before.before.before.size.ensures, text.data-v1.ensures) at c.is_same.ensures
 
-pub read-echo-spec : {M : Type 1} → statement M
-unfolding echoV1 pick
-read-echo-spec =
+pub read_echo_spec : {M : Type 1} → statement M
+unfolding echo_v1 pick
+read_echo_spec =
     tie.close
     (tie.spec
     (λ c κs. search rules)

@@ -2,13 +2,13 @@
 use mathlib.Core.Path.{sym, ◌∙◌}
 use borrow.Author.Rules.{rules}
 use Rattle.buffer.specs.First.{pick}
-use Rattle.replies_v1.specs.ReplyV1.{measureV1}
+use Rattle.replies_v1.specs.ReplyV1.{measure_v1}
 use Rattle.replies_v1.proofs.read_measure.Statement.{statement}
 use Rattle.replies_v1.proofs.read_measure.Tie as tie
 
-pub read-measure-spec : {M : Type 1} → statement M
-unfolding measureV1 pick
-read-measure-spec =
+pub read_measure_spec : {M : Type 1} → statement M
+unfolding measure_v1 pick
+read_measure_spec =
     tie.close
     (tie.spec
     (λ c. search rules)

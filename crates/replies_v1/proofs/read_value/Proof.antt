@@ -1,12 +1,12 @@
 -- `replies_v1::read_value` meets its contract.
 use borrow.Author.Rules.{rules}
-use Rattle.replies_v1.specs.ReplyV1.{valueV1}
+use Rattle.replies_v1.specs.ReplyV1.{value_v1}
 use Rattle.replies_v1.proofs.read_value.Statement.{statement}
 use Rattle.replies_v1.proofs.read_value.Tie as tie
 
-pub read-value-spec : {M : Type 1} → statement M
-unfolding valueV1
-read-value-spec =
+pub read_value_spec : {M : Type 1} → statement M
+unfolding value_v1
+read_value_spec =
     tie.close
     (tie.spec
     (λ c. search rules)

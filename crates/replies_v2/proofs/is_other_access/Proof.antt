@@ -8,28 +8,28 @@ use borrow.Author.Tests.{eq-eqb, ne_eqb}
 use borrow.Author.Rules.{rules}
 use Rattle.requests.specs.declared.RequestV2.{RequestV2}
 use Rattle.requests.specs.declared.RequestV2.TheVariants.{Read, Restore, Set}
-use Rattle.request_texts.specs.RequestText.{accessOf}
-use Rattle.replies_v2.specs.ReplyV2.{otherAccess}
+use Rattle.request_texts.specs.RequestText.{access_of}
+use Rattle.replies_v2.specs.ReplyV2.{other_access}
 use Rattle.replies_v2.proofs.is_other_access.Statement.{statement}
 use Rattle.replies_v2.proofs.is_other_access.Tie as tie
 
-access-le : (r : RequestV2) → accessOf r ≤ 52
-unfolding accessOf
+access-le : (r : RequestV2) → access_of r ≤ 52
+unfolding access_of
 access-le (Read c) = omega arith
 access-le (Restore c) = omega arith
 access-le (Set x) = omega arith
 
 -- k is the request's access code
-same-access : (r : RequestV2) (a k : ℕ) → k ≡ accessOf r → a ≡ k + 1 → false ≡ otherAccess r a
-unfolding otherAccess
+same-access : (r : RequestV2) (a k : ℕ) → k ≡ access_of r → a ≡ k + 1 → false ≡ other_access r a
+unfolding other_access
 same-access r a k e h = rw (← e, eq-eqb a (k + 1) h)
 
-other-access : (r : RequestV2) (a k : ℕ) → k ≡ accessOf r → (a ≡ k + 1 → ⊥) → not (eqb a 55) ≡ otherAccess r a
-unfolding otherAccess
+other-access : (r : RequestV2) (a k : ℕ) → k ≡ access_of r → (a ≡ k + 1 → ⊥) → not (eqb a 55) ≡ other_access r a
+unfolding other_access
 other-access r a k e h = rw (← e, ne_eqb a (k + 1) h)
 
-pub is-other-access-spec : {M : Type 1} → statement M
-is-other-access-spec =
+pub is_other_access_spec : {M : Type 1} → statement M
+is_other_access_spec =
     tie.close
     (tie.spec
     (λ c κs. search rules)

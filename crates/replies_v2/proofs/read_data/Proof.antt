@@ -10,21 +10,21 @@ use Rattle.settings.specs.Limits.{ProfileLimits}
 use Rattle.requests.specs.declared.RequestV2.{RequestV2}
 use Rattle.requests.specs.declared.RequestV2.TheVariants.{Read, Restore, Set}
 use Rattle.requests.specs.contracts.RequestV2.{the_type}
-use Rattle.replies_v2.specs.ReplyV2.{doneReply, dataReply, dataList, DataReads}
+use Rattle.replies_v2.specs.ReplyV2.{done_reply, data_reply, data_list, DataReads}
 use Rattle.replies_v2_values.specs.declared.AnswerV2.{AnswerV2}
 use Rattle.replies_v2.proofs.read_data.Statement.{statement}
 use Rattle.replies_v2.proofs.read_data.Tie as tie
 
 -- a request that is no read
-other : (limits : ProfileLimits) (q : RequestV2) (s : List ℕ) (a : AnswerV2) → OneOf (1 ∷ 2 ∷ []) (tag_of the_type q) → a.read ≡ doneReply s → list_of a.sources ≡ [] → Counted a.sources → DataReads limits q s a
-unfolding dataReply dataList
+other : (limits : ProfileLimits) (q : RequestV2) (s : List ℕ) (a : AnswerV2) → OneOf (1 ∷ 2 ∷ []) (tag_of the_type q) → a.read ≡ done_reply s → list_of a.sources ≡ [] → Counted a.sources → DataReads limits q s a
+unfolding data_reply data_list
 other limits (Read c) s a h e l n = absurd (miss (1 ∷ 2 ∷ []) 0 tt h)
 other limits (Restore c) s a h e l n = record { read = e; list = l; count = n }
 other limits (Set x) s a h e l n = record { read = e; list = l; count = n }
 
-pub read-data-spec : {M : Type 1} → statement M
-unfolding dataReply dataList
-read-data-spec =
+pub read_data_spec : {M : Type 1} → statement M
+unfolding data_reply data_list
+read_data_spec =
     tie.close
     (tie.spec
     (λ c. search rules)

@@ -2,13 +2,13 @@
 use mathlib.Core.Path.{refl}
 use borrow.Author.Rules.{rules}
 use Rattle.buffer.proofs.Rules.{past, stop, flag}
-use Rattle.replies_v2.specs.ReplyV2.{errorReply}
+use Rattle.replies_v2.specs.ReplyV2.{error_reply}
 use Rattle.replies_v2.proofs.read_error.Statement.{statement}
 use Rattle.replies_v2.proofs.read_error.Tie as tie
 
-pub read-error-spec : {M : Type 1} → statement M
-unfolding errorReply
-read-error-spec =
+pub read_error_spec : {M : Type 1} → statement M
+unfolding error_reply
+read_error_spec =
     tie.close
     (tie.spec
     (λ c κs. search rules)

@@ -5,25 +5,25 @@ use borrow.Author.Rules.{rules}
 use types.Run.{OneOf, miss}
 use denote.Enum.Declared.{tag_of}
 use Rattle.buffer.proofs.Rules.{past, stop, unflag}
-use Rattle.decimal.specs.Form.{parsedNumber}
+use Rattle.decimal.specs.Form.{parsed_number}
 use Rattle.decimal.specs.declared.Parsed.{Parsed}
 use Rattle.decimal.specs.declared.Parsed.TheVariants.{Value, Syntax, Range}
 use Rattle.decimal.specs.contracts.Parsed.{the_type}
 use Rattle.readings.specs.Bench.{takes}
-use Rattle.replies_v2_values.specs.Value.{measuredReply}
+use Rattle.replies_v2_values.specs.Value.{measured_reply}
 use Rattle.replies_v2_values.specs.declared.ReadV2.TheVariants.{Refused}
 use Rattle.replies_v2_values.proofs.measured_in.Statement.{statement}
 use Rattle.replies_v2_values.proofs.measured_in.Tie as tie
 
 -- a number that was not read: its tag is not the first
-other : (p : Parsed) → OneOf (1 ∷ 2 ∷ []) (tag_of the_type p) → Refused (parsedNumber p) ≡ measuredReply p
-unfolding measuredReply
+other : (p : Parsed) → OneOf (1 ∷ 2 ∷ []) (tag_of the_type p) → Refused (parsed_number p) ≡ measured_reply p
+unfolding measured_reply
 other (Value n) h = absurd (miss (1 ∷ 2 ∷ []) 0 tt h)
 other Syntax h = refl
 other Range h = refl
 
-pub measured-in-spec : {M : Type 1} → statement M
-unfolding measuredReply takes
-measured-in-spec =
+pub measured_in_spec : {M : Type 1} → statement M
+unfolding measured_reply takes
+measured_in_spec =
     tie.close
     (tie.spec (λ c. search rules) (λ c κs. search rules) (λ c. rw c.refusal-of.ensures (other c.before.before.args.p c.before.match.keys2)) (λ c κs. search rules) (λ c. rw c.before.before.before.p.given.1 (stop _ _ _ _ (unflag _ _ _ c.before.is_below.ensures c.if1.true) refl)) (λ c. rw c.before.before.before.p.given.1 (past _ _ _ _ (unflag _ _ _ c.before.is_below.ensures c.if1.false) refl)))

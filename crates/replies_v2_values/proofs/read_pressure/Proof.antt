@@ -2,13 +2,13 @@
 use mathlib.Core.Path.{refl}
 use borrow.Author.Rules.{rules}
 use Rattle.buffer.proofs.Rules.{past, stop, flag}
-use Rattle.replies_v2_values.specs.Value.{pressureReply}
+use Rattle.replies_v2_values.specs.Value.{pressure_reply}
 use Rattle.replies_v2_values.proofs.read_pressure.Statement.{statement}
 use Rattle.replies_v2_values.proofs.read_pressure.Tie as tie
 
-pub read-pressure-spec : {M : Type 1} → statement M
-unfolding pressureReply
-read-pressure-spec =
+pub read_pressure_spec : {M : Type 1} → statement M
+unfolding pressure_reply
+read_pressure_spec =
     tie.close
     (tie.spec
     (λ c. search rules)

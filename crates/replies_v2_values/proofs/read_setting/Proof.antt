@@ -10,17 +10,17 @@ use Rattle.settings.specs.declared.Key.{Key}
 use Rattle.settings.specs.declared.Key.TheVariants.{DA, DU, C1, CM, CC, FC, ST, SM}
 use Rattle.settings.specs.contracts.Key.{the_type}
 use Rattle.settings.specs.Limits.{ProfileLimits}
-use Rattle.forms.specs.Judged.{verdictOf, listIn}
+use Rattle.forms.specs.Judged.{verdict_of, list_in}
 use Rattle.requests.specs.declared.Command.TheVariants.{Of}
-use Rattle.replies_v2_values.specs.Value.{heldReply, transitionReply, settingReply, valueReply, valueList, Values}
+use Rattle.replies_v2_values.specs.Value.{held_reply, transition_reply, setting_reply, value_reply, value_list, Values}
 use Rattle.replies_v2_values.specs.declared.AnswerV2.{AnswerV2}
 use Rattle.replies_v2_values.proofs.read_setting.Statement.{statement}
 use Rattle.replies_v2_values.proofs.read_setting.Tie as tie
 
 -- every setting but ST
-other : (limits : ProfileLimits) (key : Key) (s : List ℕ) (r : AnswerV2) → OneOf (0 ∷ 1 ∷ 2 ∷ 3 ∷ 4 ∷ 5 ∷ 7 ∷ []) (tag_of the_type key) → r.read ≡ heldReply (verdictOf limits key s)
-    → list_of r.sources ≡ listIn limits key s → Counted r.sources → Values limits (Of key) s r
-unfolding settingReply valueReply valueList
+other : (limits : ProfileLimits) (key : Key) (s : List ℕ) (r : AnswerV2) → OneOf (0 ∷ 1 ∷ 2 ∷ 3 ∷ 4 ∷ 5 ∷ 7 ∷ []) (tag_of the_type key) → r.read ≡ held_reply (verdict_of limits key s)
+    → list_of r.sources ≡ list_in limits key s → Counted r.sources → Values limits (Of key) s r
+unfolding setting_reply value_reply value_list
 other limits DA s r h a l n = record { read = a; list = l; count = n }
 other limits DU s r h a l n = record { read = a; list = l; count = n }
 other limits C1 s r h a l n = record { read = a; list = l; count = n }
@@ -30,16 +30,16 @@ other limits FC s r h a l n = record { read = a; list = l; count = n }
 other limits ST s r h a l n = absurd (miss (0 ∷ 1 ∷ 2 ∷ 3 ∷ 4 ∷ 5 ∷ 7 ∷ []) 6 tt h)
 other limits SM s r h a l n = record { read = a; list = l; count = n }
 
-pub read-setting-spec : {M : Type 1} → statement M
-unfolding settingReply valueReply valueList listIn
-read-setting-spec =
+pub read_setting_spec : {M : Type 1} → statement M
+unfolding setting_reply value_reply value_list list_in
+read_setting_spec =
     tie.close
     (tie.spec
     (λ c. search rules)
     (λ c κs. search rules)
     (λ c κs. search rules)
-    (λ c. other _ c.before.before.before.before.before.args.key c.before.before.before.before.before.args.s.now _ c.before.before.before.match.keys2 (c.held_in.ensures ∙ ap heldReply c.before.before.judge.ensures.verdict) c.before.before.judge.ensures.list c.before.before.judge.ensures.count)
+    (λ c. other _ c.before.before.before.before.before.args.key c.before.before.before.before.before.args.s.now _ c.before.before.before.match.keys2 (c.held_in.ensures ∙ ap held_reply c.before.before.judge.ensures.verdict) c.before.before.judge.ensures.list c.before.before.judge.ensures.count)
     (λ c κs. search rules)
     (λ c κs. search rules)
     (λ c κs. search rules)
-    (λ c. rw c.before.before.before.enum_told.given.1 (record { read = c.plain.ensures.0 ∙ c.before.transition-in.ensures ∙ ap transitionReply c.before.before.read-ends.ensures; list = c.plain.ensures.1; count = c.plain.ensures.2 })))
+    (λ c. rw c.before.before.before.enum_told.given.1 (record { read = c.plain.ensures.0 ∙ c.before.transition-in.ensures ∙ ap transition_reply c.before.before.read-ends.ensures; list = c.plain.ensures.1; count = c.plain.ensures.2 })))

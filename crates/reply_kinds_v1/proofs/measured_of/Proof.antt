@@ -5,15 +5,15 @@ use borrow.Author.Rules.{rules}
 use Rattle.buffer.specs.First.{pick}
 use Rattle.buffer.proofs.Rules.{past}
 use Rattle.replies_v1.specs.declared.ReadV1.TheVariants.{Read, Refused}
-use Rattle.replies_v1.specs.ReplyV1.{readShownV1}
-use Rattle.reply_kinds_v1.specs.Kind.{asMeasured, expected}
+use Rattle.replies_v1.specs.ReplyV1.{read_shown_v1}
+use Rattle.reply_kinds_v1.specs.Kind.{as_measured, expected}
 use Rattle.reply_kinds_v1.proofs.Laws.{apart}
 use Rattle.reply_kinds_v1.proofs.measured_of.Statement.{statement}
 use Rattle.reply_kinds_v1.proofs.measured_of.Tie as tie
 
-pub measured-of-spec : {M : Type 1} → statement M
-unfolding asMeasured expected readShownV1 pick
-measured-of-spec =
+pub measured_of_spec : {M : Type 1} → statement M
+unfolding as_measured expected read_shown_v1 pick
+measured_of_spec =
     tie.close
     (tie.spec
     (λ c. search rules)

@@ -5,15 +5,15 @@ use borrow.Author.Rules.{rules}
 use Rattle.buffer.specs.First.{pick}
 use Rattle.buffer.proofs.Rules.{past}
 use Rattle.replies_v1.specs.declared.ReadV1.TheVariants.{Read, Refused}
-use Rattle.replies_v1.specs.ReplyV1.{readShownV1}
-use Rattle.reply_kinds_v1.specs.Kind.{asUnit, expected}
+use Rattle.replies_v1.specs.ReplyV1.{read_shown_v1}
+use Rattle.reply_kinds_v1.specs.Kind.{as_unit, expected}
 use Rattle.reply_kinds_v1.proofs.Laws.{apart}
 use Rattle.reply_kinds_v1.proofs.unit_of.Statement.{statement}
 use Rattle.reply_kinds_v1.proofs.unit_of.Tie as tie
 
-pub unit-of-spec : {M : Type 1} → statement M
-unfolding asUnit expected readShownV1 pick
-unit-of-spec =
+pub unit_of_spec : {M : Type 1} → statement M
+unfolding as_unit expected read_shown_v1 pick
+unit_of_spec =
     tie.close
     (tie.spec
     (λ c. search rules)

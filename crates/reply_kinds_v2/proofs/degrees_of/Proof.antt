@@ -5,15 +5,15 @@ use borrow.Author.Rules.{rules}
 use Rattle.buffer.specs.First.{pick}
 use Rattle.buffer.proofs.Rules.{past}
 use Rattle.replies_v2_values.specs.declared.ReadV2.TheVariants.{Read, Refused}
-use Rattle.replies_v2.specs.ReplyV2.{readShownV2}
-use Rattle.reply_kinds_v2.specs.Kind.{asDegrees, expected}
+use Rattle.replies_v2.specs.ReplyV2.{read_shown_v2}
+use Rattle.reply_kinds_v2.specs.Kind.{as_degrees, expected}
 use Rattle.reply_kinds_v2.proofs.Laws.{apart}
 use Rattle.reply_kinds_v2.proofs.degrees_of.Statement.{statement}
 use Rattle.reply_kinds_v2.proofs.degrees_of.Tie as tie
 
-pub degrees-of-spec : {M : Type 1} → statement M
-unfolding asDegrees expected readShownV2 pick
-degrees-of-spec =
+pub degrees_of_spec : {M : Type 1} → statement M
+unfolding as_degrees expected read_shown_v2 pick
+degrees_of_spec =
     tie.close
     (tie.spec
     (λ c. search rules)

@@ -5,15 +5,15 @@ use borrow.Author.Rules.{rules}
 use Rattle.buffer.specs.First.{pick}
 use Rattle.buffer.proofs.Rules.{past}
 use Rattle.replies_v2_values.specs.declared.ReadV2.TheVariants.{Read, Refused}
-use Rattle.replies_v2.specs.ReplyV2.{readShownV2}
-use Rattle.reply_kinds_v2.specs.Kind.{asFilament, expected}
+use Rattle.replies_v2.specs.ReplyV2.{read_shown_v2}
+use Rattle.reply_kinds_v2.specs.Kind.{as_filament, expected}
 use Rattle.reply_kinds_v2.proofs.Laws.{apart}
 use Rattle.reply_kinds_v2.proofs.filament_of.Statement.{statement}
 use Rattle.reply_kinds_v2.proofs.filament_of.Tie as tie
 
-pub filament-of-spec : {M : Type 1} → statement M
-unfolding asFilament expected readShownV2 pick
-filament-of-spec =
+pub filament_of_spec : {M : Type 1} → statement M
+unfolding as_filament expected read_shown_v2 pick
+filament_of_spec =
     tie.close
     (tie.spec
     (λ c. search rules)

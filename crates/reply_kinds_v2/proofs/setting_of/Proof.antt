@@ -5,15 +5,15 @@ use borrow.Author.Rules.{rules}
 use Rattle.buffer.specs.First.{pick}
 use Rattle.buffer.proofs.Rules.{past}
 use Rattle.replies_v2_values.specs.declared.ReadV2.TheVariants.{Read, Refused}
-use Rattle.replies_v2.specs.ReplyV2.{readShownV2}
-use Rattle.reply_kinds_v2.specs.Kind.{asSetting, expected}
+use Rattle.replies_v2.specs.ReplyV2.{read_shown_v2}
+use Rattle.reply_kinds_v2.specs.Kind.{as_setting, expected}
 use Rattle.reply_kinds_v2.proofs.Laws.{apart}
 use Rattle.reply_kinds_v2.proofs.setting_of.Statement.{statement}
 use Rattle.reply_kinds_v2.proofs.setting_of.Tie as tie
 
-pub setting-of-spec : {M : Type 1} → statement M
-unfolding asSetting expected readShownV2 pick
-setting-of-spec =
+pub setting_of_spec : {M : Type 1} → statement M
+unfolding as_setting expected read_shown_v2 pick
+setting_of_spec =
     tie.close
     (tie.spec
     (λ c. search rules)

@@ -5,15 +5,15 @@ use borrow.Author.Rules.{rules}
 use Rattle.buffer.specs.First.{pick}
 use Rattle.buffer.proofs.Rules.{past}
 use Rattle.replies_v2_values.specs.declared.ReadV2.TheVariants.{Read, Refused}
-use Rattle.replies_v2.specs.ReplyV2.{readShownV2}
-use Rattle.reply_kinds_v2.specs.Kind.{asStatus, expected}
+use Rattle.replies_v2.specs.ReplyV2.{read_shown_v2}
+use Rattle.reply_kinds_v2.specs.Kind.{as_status, expected}
 use Rattle.reply_kinds_v2.proofs.Laws.{apart}
 use Rattle.reply_kinds_v2.proofs.status_of.Statement.{statement}
 use Rattle.reply_kinds_v2.proofs.status_of.Tie as tie
 
-pub status-of-spec : {M : Type 1} → statement M
-unfolding asStatus expected readShownV2 pick
-status-of-spec =
+pub status_of_spec : {M : Type 1} → statement M
+unfolding as_status expected read_shown_v2 pick
+status_of_spec =
     tie.close
     (tie.spec
     (λ c. search rules)

@@ -13,5 +13,5 @@ no_nan nan e = absurd (true≢false e)
 no_nan (inf s) e = tt
 no_nan (fin s m k) e = tt
 
-pub show-bits-spec : {M : Type 1} → statement M
-show-bits-spec = tie.close (tie.spec (λ c κs. search rules) (λ c. search rules) (λ c. no_nan _ c.if1.false) (λ c κs. search rules) (λ c. search rules))
+pub show_bits_spec : {M : Type 1} → statement M
+show_bits_spec = tie.close (tie.spec (λ c κs. search rules) (λ c. search rules) (λ c. no_nan _ c.if1.false) (λ c κs. search rules) (λ c. search rules))

@@ -10,14 +10,14 @@ use Rattle.buffer.proofs.Rules.{rules}
 use Rattle.requests.specs.declared.RequestV1.{RequestV1}
 use Rattle.requests.specs.declared.RequestV1.TheVariants.{Measure, ReadFactor, Unlock, SetFactor, ReadUnit, SetUnit}
 use Rattle.requests.specs.contracts.RequestV1.{the_type}
-use Rattle.request_reader.specs.Decoded.{judgedV1}
+use Rattle.request_reader.specs.Decoded.{judged_v1}
 use Rattle.request_reader.specs.declared.Request.TheVariants.{V1}
 use Rattle.request_reader.proofs.judged_v1.Statement.{statement}
 use Rattle.request_reader.proofs.judged_v1.Tie as tie
 
 -- only a factor is judged
-other : (address : ℕ) (r : RequestV1) → OneOf (0 ∷ 1 ∷ 2 ∷ 4 ∷ 5 ∷ []) (tag_of the_type r) → V1 address r ≡ judgedV1 address r
-unfolding judgedV1
+other : (address : ℕ) (r : RequestV1) → OneOf (0 ∷ 1 ∷ 2 ∷ 4 ∷ 5 ∷ []) (tag_of the_type r) → V1 address r ≡ judged_v1 address r
+unfolding judged_v1
 other a Measure h = refl
 other a ReadFactor h = refl
 other a Unlock h = refl
@@ -25,9 +25,9 @@ other a (SetFactor n) h = absurd (miss (0 ∷ 1 ∷ 2 ∷ 4 ∷ 5 ∷ []) 3 tt h
 other a ReadUnit h = refl
 other a (SetUnit u) h = refl
 
-pub judged-v1-spec : {M : Type 1} → statement M
-unfolding judgedV1
-judged-v1-spec =
+pub judged_v1_spec : {M : Type 1} → statement M
+unfolding judged_v1
+judged_v1_spec =
     tie.close
     (tie.spec
     (λ c. search rules)

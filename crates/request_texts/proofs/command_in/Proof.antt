@@ -1,12 +1,12 @@
 -- `request_texts::command_in` meets its contract.
 use borrow.Author.Rules.{rules}
-use Rattle.request_texts.specs.RequestText.{commandIn}
+use Rattle.request_texts.specs.RequestText.{command_in}
 use Rattle.request_texts.proofs.command_in.Statement.{statement}
 use Rattle.request_texts.proofs.command_in.Tie as tie
 
-pub command-in-spec : {M : Type 1} → statement M
-unfolding commandIn
-command-in-spec =
+pub command_in_spec : {M : Type 1} → statement M
+unfolding command_in
+command_in_spec =
     tie.close
     (tie.spec
     (λ c. search rules)

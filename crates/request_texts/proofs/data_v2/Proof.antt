@@ -1,13 +1,13 @@
 -- `request_texts::data_v2` meets its contract.
 use borrow.Author.Rules.{rules}
 use Rattle.buffer.specs.Text.{text_of}
-use Rattle.request_texts.specs.RequestText.{dataV2}
+use Rattle.request_texts.specs.RequestText.{data_v2}
 use Rattle.request_texts.proofs.data_v2.Statement.{statement}
 use Rattle.request_texts.proofs.data_v2.Tie as tie
 
-pub data-v2-spec : {M : Type 1} → statement M
-unfolding dataV2 text_of
-data-v2-spec =
+pub data_v2_spec : {M : Type 1} → statement M
+unfolding data_v2 text_of
+data_v2_spec =
     tie.close
     (tie.spec
     (λ c. search rules)

@@ -1,12 +1,12 @@
 -- `request_texts::letter_v1` meets its contract.
 use borrow.Author.Rules.{rules}
-use Rattle.request_texts.specs.RequestText.{letterV1}
+use Rattle.request_texts.specs.RequestText.{letter_v1}
 use Rattle.request_texts.proofs.letter_v1.Statement.{statement}
 use Rattle.request_texts.proofs.letter_v1.Tie as tie
 
-pub letter-v1-spec : {M : Type 1} → statement M
-unfolding letterV1
-letter-v1-spec =
+pub letter_v1_spec : {M : Type 1} → statement M
+unfolding letter_v1
+letter_v1_spec =
     tie.close
     (tie.spec
     (λ c. search rules)

@@ -4,9 +4,9 @@ use Rattle.buffer.specs.Text.{text_of, cut}
 use Rattle.request_texts.proofs.six_digits.Statement.{statement}
 use Rattle.request_texts.proofs.six_digits.Tie as tie
 
-pub six-digits-spec : {M : Type 1} → statement M
+pub six_digits_spec : {M : Type 1} → statement M
 unfolding text_of cut
-six-digits-spec =
+six_digits_spec =
     tie.close
     (tie.spec
     (λ c. search rules)

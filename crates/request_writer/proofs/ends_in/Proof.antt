@@ -3,13 +3,13 @@ use mathlib.Core.Path.{sym, ◌∙◌}
 use borrow.Author.Rules.{rules}
 use borrow.Author.Tests.{not-true, not-false}
 use Rattle.buffer.specs.First.{pick}
-use Rattle.request_writer.specs.Typed.{endsIn}
+use Rattle.request_writer.specs.Typed.{ends_in}
 use Rattle.request_writer.proofs.ends_in.Statement.{statement}
 use Rattle.request_writer.proofs.ends_in.Tie as tie
 
-pub ends-in-spec : {M : Type 1} → statement M
-unfolding endsIn pick
-ends-in-spec =
+pub ends_in_spec : {M : Type 1} → statement M
+unfolding ends_in pick
+ends_in_spec =
     tie.close
     (tie.spec
     (λ c. search rules)

@@ -6,7 +6,7 @@ use borrow.Author.Tests.{not-true, not-false}
 use types.Run.{OneOf, miss}
 use denote.Enum.Declared.{tag_of}
 use Rattle.buffer.proofs.Rules.{rules}
-use Rattle.request_writer.specs.Typed.{formedV1}
+use Rattle.request_writer.specs.Typed.{formed_v1}
 use Rattle.requests.specs.declared.RequestV1.{RequestV1}
 use Rattle.requests.specs.declared.RequestV1.TheVariants.{Measure, ReadFactor, Unlock, SetFactor, ReadUnit, SetUnit}
 use Rattle.requests.specs.contracts.RequestV1.{the_type}
@@ -14,8 +14,8 @@ use Rattle.request_writer.proofs.formed_v1.Statement.{statement}
 use Rattle.request_writer.proofs.formed_v1.Tie as tie
 
 -- only a factor is judged
-other : (r : RequestV1) → OneOf (0 ∷ 1 ∷ 2 ∷ 4 ∷ 5 ∷ []) (tag_of the_type r) → 0 ≡ formedV1 r
-unfolding formedV1
+other : (r : RequestV1) → OneOf (0 ∷ 1 ∷ 2 ∷ 4 ∷ 5 ∷ []) (tag_of the_type r) → 0 ≡ formed_v1 r
+unfolding formed_v1
 other Measure h = refl
 other ReadFactor h = refl
 other Unlock h = refl
@@ -23,9 +23,9 @@ other (SetFactor n) h = absurd (miss (0 ∷ 1 ∷ 2 ∷ 4 ∷ 5 ∷ []) 3 tt h)
 other ReadUnit h = refl
 other (SetUnit u) h = refl
 
-pub formed-v1-spec : {M : Type 1} → statement M
-unfolding formedV1
-formed-v1-spec =
+pub formed_v1_spec : {M : Type 1} → statement M
+unfolding formed_v1
+formed_v1_spec =
     tie.close
     (tie.spec
     (λ c. search rules)

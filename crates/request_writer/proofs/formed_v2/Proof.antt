@@ -2,14 +2,14 @@
 use mathlib.Core.Path.{refl, sym, ◌∙◌}
 use borrow.Author.Rules.{rules}
 use Rattle.buffer.proofs.Rules.{past, stop, flag}
-use Rattle.requests.specs.AskV2.{setOf}
-use Rattle.request_writer.specs.Typed.{formedV2}
+use Rattle.requests.specs.AskV2.{set_of}
+use Rattle.request_writer.specs.Typed.{formed_v2}
 use Rattle.request_writer.proofs.formed_v2.Statement.{statement}
 use Rattle.request_writer.proofs.formed_v2.Tie as tie
 
-pub formed-v2-spec : {M : Type 1} → statement M
-unfolding formedV2 setOf
-formed-v2-spec =
+pub formed_v2_spec : {M : Type 1} → statement M
+unfolding formed_v2 set_of
+formed_v2_spec =
     tie.close
     (tie.spec
     (λ c. search rules)

@@ -4,5 +4,5 @@ use borrow.Author.Rules.{rules}
 use Rattle.request_writer.proofs.is_idle_list.Statement.{statement}
 use Rattle.request_writer.proofs.is_idle_list.Tie as tie
 
-pub is-idle-list-spec : {M : Type 1} → statement M
-is-idle-list-spec = tie.close (tie.spec (λ c. search rules) (λ c. rw c.if1.false))
+pub is_idle_list_spec : {M : Type 1} → statement M
+is_idle_list_spec = tie.close (tie.spec (λ c. search rules) (λ c. rw c.if1.false))

@@ -7,9 +7,9 @@ use lib.ListN.{length}
 use Rattle.buffer.proofs.Rules.{past, stop, flag, unflag}
 use Rattle.buffer.specs.Byte.{every}
 use Rattle.sources.specs.Source.{among, list_of}
-use Rattle.settings.specs.Limits.{limitsOf}
-use Rattle.settings.proofs.Laws.{codes-are}
-use Rattle.request_writer.specs.Typed.{typedStream}
+use Rattle.settings.specs.Limits.{limits_of}
+use Rattle.settings.proofs.Laws.{codes_are}
+use Rattle.request_writer.specs.Typed.{typed_stream}
 use Rattle.request_writer.proofs.typed_stream.Statement.{statement}
 use Rattle.request_writer.proofs.typed_stream.Tie as tie
 
@@ -22,12 +22,12 @@ idle c = rw c.before.size.ensures at c.is-idle-list.ensures
 -- the sources are the profile's
 known : (c : tie.After-all-known)
     → let a = c.before.before.before.before.args in
-    c.all_known.result ≡ every (among (limitsOf a.profile).sourceCodes) (list_of a.q)
-known c = rw (codes-are c.before.before.before.before.args.profile) c.all_known.ensures
+    c.all_known.result ≡ every (among (limits_of a.profile).source_codes) (list_of a.q)
+known c = rw (codes_are c.before.before.before.before.args.profile) c.all_known.ensures
 
-pub typed-stream-spec : {M : Type 1} → statement M
-unfolding typedStream
-typed-stream-spec =
+pub typed_stream_spec : {M : Type 1} → statement M
+unfolding typed_stream
+typed_stream_spec =
     tie.close
     (tie.spec
     (λ c κs. search rules)

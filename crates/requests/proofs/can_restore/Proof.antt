@@ -1,12 +1,12 @@
 -- `requests::can_restore` meets its contract.
 use borrow.Author.Rules.{rules}
-use Rattle.requests.specs.Command.{canRestore}
+use Rattle.requests.specs.Command.{can_restore}
 use Rattle.requests.proofs.can_restore.Statement.{statement}
 use Rattle.requests.proofs.can_restore.Tie as tie
 
-pub can-restore-spec : {M : Type 1} → statement M
-unfolding canRestore
-can-restore-spec =
+pub can_restore_spec : {M : Type 1} → statement M
+unfolding can_restore
+can_restore_spec =
     tie.close
     (tie.spec
     (λ c. search rules)

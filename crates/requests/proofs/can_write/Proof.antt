@@ -4,9 +4,9 @@ use Rattle.requests.specs.Command.{can_write}
 use Rattle.requests.proofs.can_write.Statement.{statement}
 use Rattle.requests.proofs.can_write.Tie as tie
 
-pub can-write-spec : {M : Type 1} → statement M
+pub can_write_spec : {M : Type 1} → statement M
 unfolding can_write
-can-write-spec =
+can_write_spec =
     tie.close
     (tie.spec
     (λ c. search rules)

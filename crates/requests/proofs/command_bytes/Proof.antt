@@ -1,12 +1,12 @@
 -- `requests::command_bytes` meets its contract.
 use borrow.Author.Rules.{rules}
-use Rattle.requests.specs.Command.{commandText}
+use Rattle.requests.specs.Command.{command_text}
 use Rattle.requests.proofs.command_bytes.Statement.{statement}
 use Rattle.requests.proofs.command_bytes.Tie as tie
 
-pub command-bytes-spec : {M : Type 1} → statement M
-unfolding commandText
-command-bytes-spec =
+pub command_bytes_spec : {M : Type 1} → statement M
+unfolding command_text
+command_bytes_spec =
     tie.close
     (tie.spec
     (λ c. search rules)

@@ -3,19 +3,19 @@ use mathlib.Core.Path.{◌≡◌, ◌∙◌}
 use borrow.Author.Rules.{rules}
 use Rattle.buffer.specs.First.{pick}
 use Rattle.buffer.proofs.Rules.{rules}
-use Rattle.requests.specs.Command.{commandOf}
+use Rattle.requests.specs.Command.{command_of}
 use Rattle.requests.specs.declared.Named.{Named}
 use Rattle.requests.proofs.Numbered.{numbered, numbered_is}
 use Rattle.requests.proofs.command_of.Statement.{statement}
 use Rattle.requests.proofs.command_of.Tie as tie
 
 -- what is numbered is what is spelled
-named : (s : tie.Start) {r : Named} → r ≡ numbered s.args.first s.args.second → r ≡ commandOf s.args.first s.args.second
+named : (s : tie.Start) {r : Named} → r ≡ numbered s.args.first s.args.second → r ≡ command_of s.args.first s.args.second
 named s h = h ∙ numbered_is s.args.first s.args.second (search rules)
 
-pub command-of-spec : {M : Type 1} → statement M
+pub command_of_spec : {M : Type 1} → statement M
 unfolding numbered pick
-command-of-spec =
+command_of_spec =
     tie.close
     (tie.spec
     (λ c. search rules)

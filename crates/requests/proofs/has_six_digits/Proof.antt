@@ -1,13 +1,13 @@
 -- `requests::has_six_digits` meets its contract.
 use borrow.Author.Rules.{rules}
 use borrow.Author.Tests.{eq-eqb, ne_eqb}
-use Rattle.requests.specs.AskV1.{sixDigits}
+use Rattle.requests.specs.AskV1.{six_digits}
 use Rattle.requests.proofs.has_six_digits.Statement.{statement}
 use Rattle.requests.proofs.has_six_digits.Tie as tie
 
-pub has-six-digits-spec : {M : Type 1} → statement M
-unfolding sixDigits
-has-six-digits-spec =
+pub has_six_digits_spec : {M : Type 1} → statement M
+unfolding six_digits
+has_six_digits_spec =
     tie.close
     (tie.spec
     (λ c. rw (ne_eqb _ 6 c.if1.true))

@@ -1,12 +1,12 @@
 -- `requests::key_bytes` meets its contract.
 use borrow.Author.Rules.{rules}
-use Rattle.requests.specs.Command.{commandText}
+use Rattle.requests.specs.Command.{command_text}
 use Rattle.requests.proofs.key_bytes.Statement.{statement}
 use Rattle.requests.proofs.key_bytes.Tie as tie
 
-pub key-bytes-spec : {M : Type 1} → statement M
-unfolding commandText
-key-bytes-spec =
+pub key_bytes_spec : {M : Type 1} → statement M
+unfolding command_text
+key_bytes_spec =
     tie.close
     (tie.spec
     (λ c. search rules)

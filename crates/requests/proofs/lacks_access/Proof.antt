@@ -4,13 +4,13 @@ use mathlib.Core.Bool.{not}
 use borrow.Author.Rules.{rules}
 use borrow.Author.Tests.{eq-eqb, ne_eqb}
 use Rattle.buffer.proofs.Rules.{past, stop, rules}
-use Rattle.requests.specs.Command.{lacksAccess}
+use Rattle.requests.specs.Command.{lacks_access}
 use Rattle.requests.proofs.lacks_access.Statement.{statement}
 use Rattle.requests.proofs.lacks_access.Tie as tie
 
-pub lacks-access-spec : {M : Type 1} → statement M
-unfolding lacksAccess
-lacks-access-spec =
+pub lacks_access_spec : {M : Type 1} → statement M
+unfolding lacks_access
+lacks_access_spec =
     tie.close
     (tie.spec
     (λ c κs. search rules)

@@ -3,11 +3,11 @@ use borrow.Author.Rules.{rules}
 use Rattle.rewriter.proofs.rewrite_opg.Statement.{statement}
 use Rattle.rewriter.proofs.rewrite_opg.Tie as tie
 
-pub rewrite-opg-spec : {M : Type 1} → statement M
-rewrite-opg-spec =
+pub rewrite_opg_spec : {M : Type 1} → statement M
+rewrite_opg_spec =
     tie.close
     (tie.spec
     (λ c κs. search rules)
     (λ c κs. search rules)
     (λ c. search rules)
-    (λ c. rw (← c.before.before.before.read-request.ensures) c.before.before.write-opg-again.ensures))
+    (λ c. rw (← c.before.before.before.read_request.ensures) c.before.before.write-opg-again.ensures))

@@ -2,13 +2,13 @@
 use mathlib.Core.Path.{refl}
 use borrow.Author.Rules.{rules}
 use Rattle.buffer.proofs.Laws.{refuses}
-use Rattle.rewriter.specs.Again.{opgAgain}
+use Rattle.rewriter.specs.Again.{opg_again}
 use Rattle.rewriter.proofs.write_opg_again.Statement.{statement}
 use Rattle.rewriter.proofs.write_opg_again.Tie as tie
 
-pub write-opg-again-spec : {M : Type 1} → statement M
-unfolding opgAgain
-write-opg-again-spec =
+pub write_opg_again_spec : {M : Type 1} → statement M
+unfolding opg_again
+write_opg_again_spec =
     tie.close
     (tie.spec
     (λ c. search rules)

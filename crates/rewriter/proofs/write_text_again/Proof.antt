@@ -2,13 +2,13 @@
 use mathlib.Core.Path.{refl}
 use borrow.Author.Rules.{rules}
 use Rattle.buffer.proofs.Laws.{refuses}
-use Rattle.rewriter.specs.Again.{textAgain}
+use Rattle.rewriter.specs.Again.{text_again}
 use Rattle.rewriter.proofs.write_text_again.Statement.{statement}
 use Rattle.rewriter.proofs.write_text_again.Tie as tie
 
-pub write-text-again-spec : {M : Type 1} → statement M
-unfolding textAgain
-write-text-again-spec =
+pub write_text_again_spec : {M : Type 1} → statement M
+unfolding text_again
+write_text_again_spec =
     tie.close
     (tie.spec
     (λ c. search rules)

@@ -5,9 +5,9 @@ use Rattle.script.specs.Script.{call_of}
 use Rattle.script.proofs.call_of.Statement.{statement}
 use Rattle.script.proofs.call_of.Tie as tie
 
-pub call-of-spec : {M : Type 1} → statement M
+pub call_of_spec : {M : Type 1} → statement M
 unfolding call_of
-call-of-spec =
+call_of_spec =
     tie.close
     (tie.spec
     (λ c. (search rules depth 12, tt))

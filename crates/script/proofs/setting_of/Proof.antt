@@ -6,9 +6,9 @@ use Rattle.script.specs.Script.{setting_of}
 use Rattle.script.proofs.setting_of.Statement.{statement}
 use Rattle.script.proofs.setting_of.Tie as tie
 
-pub setting-of-spec : {M : Type 1} → statement M
+pub setting_of_spec : {M : Type 1} → statement M
 unfolding setting_of
-setting-of-spec =
+setting_of_spec =
     tie.close
     (tie.spec
     (λ c. (search rules depth 12, tt))

@@ -4,6 +4,6 @@ use Rattle.buffer.specs.Text.{text_of, cut}
 use Rattle.settings.proofs.address_text.Statement.{statement}
 use Rattle.settings.proofs.address_text.Tie as tie
 
-pub address-text-spec : {M : Type 1} → statement M
+pub address_text_spec : {M : Type 1} → statement M
 unfolding text_of cut
-address-text-spec = tie.close (tie.spec (λ c. search rules) (λ c. search rules) (λ c. search rules) (λ c. search rules) (λ c κs. search rules) (λ c. c.add.ensures))
+address_text_spec = tie.close (tie.spec (λ c. search rules) (λ c. search rules) (λ c. search rules) (λ c. search rules) (λ c κs. search rules) (λ c. c.add.ensures))

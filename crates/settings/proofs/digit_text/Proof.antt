@@ -4,6 +4,6 @@ use Rattle.buffer.specs.Text.{text_of, cut}
 use Rattle.settings.proofs.digit_text.Statement.{statement}
 use Rattle.settings.proofs.digit_text.Tie as tie
 
-pub digit-text-spec : {M : Type 1} → statement M
+pub digit_text_spec : {M : Type 1} → statement M
 unfolding text_of cut
-digit-text-spec = tie.close (tie.spec (λ c. search rules) (λ c κs. search rules) (λ c. c.push.ensures))
+digit_text_spec = tie.close (tie.spec (λ c. search rules) (λ c κs. search rules) (λ c. c.push.ensures))

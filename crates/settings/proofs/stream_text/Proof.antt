@@ -4,24 +4,24 @@ use native.Mathlib.Omega.{arith}
 use mathlib.Core.List.{[], ◌∷◌, ◌++◌}
 use lib.ListN.{length-append}
 use Rattle.buffer.specs.Text.{text_of, cut}
-use Rattle.buffer.proofs.Laws.{cut-cut, cut_fits}
-use Rattle.sources.specs.Source.{list_of, listText}
-use Rattle.sources.proofs.Laws.{list-text-le, list-few}
-use Rattle.settings.specs.Sent.{streamText}
+use Rattle.buffer.proofs.Laws.{cut_cut, cut_fits}
+use Rattle.sources.specs.Source.{list_of, list_text}
+use Rattle.sources.proofs.Laws.{list_text_le, list_few}
+use Rattle.settings.specs.Sent.{stream_text}
 use Rattle.settings.proofs.stream_text.Statement.{statement}
 use Rattle.settings.proofs.stream_text.Tie as tie
 
 returns : tie.Need-returns
-unfolding streamText text_of
+unfolding stream_text text_of
 returns c =
     let q = c.before.before.before.args.list in
-    let few = list-few q (search rules) in
-    rw (c.before.before.if1.true, c.with-list.ensures, c.before.push.ensures, cut-cut)
-    (cut_fits ((52 ∷ []) ++ listText (list_of q)) (simp length-append (omega (arith, list-text-le (list_of q), few))))
+    let few = list_few q (search rules) in
+    rw (c.before.before.if1.true, c.with_list.ensures, c.before.push.ensures, cut_cut)
+    (cut_fits ((52 ∷ []) ++ list_text (list_of q)) (simp length-append (omega (arith, list_text_le (list_of q), few))))
 
-pub stream-text-spec : {M : Type 1} → statement M
-unfolding streamText text_of cut
-stream-text-spec =
+pub stream_text_spec : {M : Type 1} → statement M
+unfolding stream_text text_of cut
+stream_text_spec =
     tie.close
     (tie.spec
     (λ c κs. search rules)

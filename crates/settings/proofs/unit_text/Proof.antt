@@ -1,13 +1,13 @@
 -- `settings::unit_text` meets its contract.
 use borrow.Author.Rules.{rules}
 use Rattle.buffer.specs.Text.{text_of, cut}
-use Rattle.settings.specs.Sent.{unitText}
+use Rattle.settings.specs.Sent.{unit_text}
 use Rattle.settings.proofs.unit_text.Statement.{statement}
 use Rattle.settings.proofs.unit_text.Tie as tie
 
-pub unit-text-spec : {M : Type 1} → statement M
-unfolding text_of cut unitText
-unit-text-spec =
+pub unit_text_spec : {M : Type 1} → statement M
+unfolding text_of cut unit_text
+unit_text_spec =
     tie.close
     (tie.spec
     (λ c. search rules)

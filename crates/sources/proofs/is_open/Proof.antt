@@ -5,6 +5,6 @@ use Rattle.sources.specs.Entries.{opens}
 use Rattle.sources.proofs.is_open.Statement.{statement}
 use Rattle.sources.proofs.is_open.Tie as tie
 
-pub is-open-spec : {M : Type 1} → statement M
+pub is_open_spec : {M : Type 1} → statement M
 unfolding opens
-is-open-spec = tie.close (tie.spec (λ c. search tests) (λ c. search rules) (λ c. search tests))
+is_open_spec = tie.close (tie.spec (λ c. search tests) (λ c. search rules) (λ c. search tests))

@@ -3,8 +3,8 @@ use borrow.Author.Rules.{rules}
 use Rattle.sources.proofs.offers.Statement.{statement}
 use Rattle.sources.proofs.offers.Tie as tie
 
-pub offers-spec : {M : Type 1} → statement M
-offers-spec =
+pub offers_spec : {M : Type 1} → statement M
+offers_spec =
     tie.close
     (tie.spec
     (λ c. search rules)

@@ -4,6 +4,6 @@ use Rattle.sources.specs.Source.{list_of, Counted}
 use Rattle.sources.proofs.refused.Statement.{statement}
 use Rattle.sources.proofs.refused.Tie as tie
 
-pub refused-spec : {M : Type 1} → statement M
+pub refused_spec : {M : Type 1} → statement M
 unfolding list_of Counted
-refused-spec = tie.close (tie.spec (λ c. (refl, refl, refl)))
+refused_spec = tie.close (tie.spec (λ c. (refl, refl, refl)))

@@ -20,8 +20,8 @@ returns-3 c =
     let run = c.before.before.before.before.args.run in
     rw c.before.enum-told2.given.1 (record { formed = sym (and-false run.formed); known = sym (and-false run.known); sources = c.push3.ensures })
 
-pub taken-spec : {M : Type 1} → statement M
-taken-spec =
+pub taken_spec : {M : Type 1} → statement M
+taken_spec =
     tie.close
     (tie.spec
     (λ c. search rules)

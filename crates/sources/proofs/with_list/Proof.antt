@@ -7,23 +7,23 @@ use borrow.Author.Rules.{rules}
 use lib.ListN.{length, take, drop, get_or, drop_of_length-le, length-take}
 use lib.Seq.{get_or-take}
 use Rattle.buffer.specs.Text.{text_of, cut}
-use Rattle.buffer.proofs.Laws.{cut-cut, cut_again, drop-step, take-taken}
-use Rattle.sources.specs.Source.{list_of, listText, sourceText}
+use Rattle.buffer.proofs.Laws.{cut_cut, cut_again, drop_step, take_taken}
+use Rattle.sources.specs.Source.{list_of, list_text, source_text}
 use Rattle.sources.proofs.with_list.Statement.{statement}
 use Rattle.sources.proofs.with_list.Tie as tie
 
 abbrev invariant-loop : tie.invariant-loop
 invariant-loop n codes r₀ i₀ r i =
-    (i ≤ n) × (cut (text_of r) ≡ text_of r) × (cut (text_of r ++ listText (drop i (take n codes))) ≡ cut (text_of r₀ ++ listText (take n codes)))
+    (i ≤ n) × (cut (text_of r) ≡ text_of r) × (cut (text_of r ++ list_text (drop i (take n codes))) ≡ cut (text_of r₀ ++ list_text (take n codes)))
 
 abbrev decreases-loop : tie.decreases-loop
 decreases-loop n codes r₀ i₀ r i = n - i
 
 -- the entry at i, and then those after it
 list-step : (codes : List ℕ) (n i : ℕ) → n ≤ length codes → i < n
-    → listText (drop i (take n codes)) ≡ ((68 ∷ []) ++ sourceText (get_or codes i 0)) ++ listText (drop (i + 1) (take n codes))
-unfolding listText
-list-step codes n i h k = rw (drop-step (take n codes) i (simp length-take (omega arith)), get_or-take n codes i 0 k)
+    → list_text (drop i (take n codes)) ≡ ((68 ∷ []) ++ source_text (get_or codes i 0)) ++ list_text (drop (i + 1) (take n codes))
+unfolding list_text
+list-step codes n i h k = rw (drop_step (take n codes) i (simp length-take (omega arith)), get_or-take n codes i 0 k)
 
 size-le : (c : tie.After-size invariant-loop decreases-loop) → c.size.result ≤ length c.before.args.list.codes
 unfolding list_of
@@ -41,22 +41,22 @@ loop-again c =
     let z = c.before.before.before.before.before.before in (
       omega arith,
       rw c.with-source.ensures (cut_again _),
-      rw (c.with-source.ensures, cut-cut, append_assoc) (rw (list-step z.before.args.list.codes z.size.result l.i (size-le z) (omega arith)) at l.invariant.2),
+      rw (c.with-source.ensures, cut_cut, append_assoc) (rw (list-step z.before.args.list.codes z.size.result l.i (size-le z) (omega arith)) at l.invariant.2),
     )
 
 returns : tie.Need-returns invariant-loop decreases-loop
-unfolding list_of listText
+unfolding list_of list_text
 returns c =
     let l = c.before.loop in
     let z = c.before.before.before.before.before in
     let q = z.before.args.list in
     let n = z.size.result in
-    let e : take n q.codes ≡ list_of q = ap (λ (k : ℕ). take k q.codes) z.size.ensures ∙ take-taken q.count q.codes in
+    let e : take n q.codes ≡ list_of q = ap (λ (k : ℕ). take k q.codes) z.size.ensures ∙ take_taken q.count q.codes in
     let left : drop l.i (take n q.codes) ≡ [] = drop_of_length-le (take n q.codes) {i = l.i} (simp length-take (omega arith)) in
-    sym l.invariant.1 ∙ rw (left, append-nil, e, c.before.before.add.ensures, append-nil, cut-cut) at l.invariant.2
+    sym l.invariant.1 ∙ rw (left, append-nil, e, c.before.before.add.ensures, append-nil, cut_cut) at l.invariant.2
 
-pub with-list-spec : {M : Type 1} → statement M
-with-list-spec =
+pub with_list_spec : {M : Type 1} → statement M
+with_list_spec =
     tie.close
     (tie.spec
     invariant-loop

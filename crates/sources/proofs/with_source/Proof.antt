@@ -2,13 +2,13 @@
 use borrow.Author.Rules.{rules}
 use borrow.Author.Tests.{eq-eqb, ne_eqb}
 use Rattle.buffer.specs.First.{pick}
-use Rattle.sources.specs.Source.{sourceText}
+use Rattle.sources.specs.Source.{source_text}
 use Rattle.sources.proofs.with_source.Statement.{statement}
 use Rattle.sources.proofs.with_source.Tie as tie
 
-pub with-source-spec : {M : Type 1} → statement M
-unfolding sourceText pick
-with-source-spec =
+pub with_source_spec : {M : Type 1} → statement M
+unfolding source_text pick
+with_source_spec =
     tie.close
     (tie.spec
     (λ c. search rules)

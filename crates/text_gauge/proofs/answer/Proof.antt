@@ -14,8 +14,8 @@ returns c =
     let after = c.with-unlock.ensures in
     (record { sent = d.0.sent; state = applied _ _ _ _ decided.result settings.0 entered.0 after.0 ∙ d.0.state }, λ n. rw (after.1.0, entered.1.0) (settings.1 n d.1))
 
-pub answer-spec : {M : Type 1} → statement M
-answer-spec =
+pub answer_spec : {M : Type 1} → statement M
+answer_spec =
     tie.close
     (tie.spec
     (λ c κs. search rules)

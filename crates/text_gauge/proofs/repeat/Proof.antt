@@ -5,5 +5,5 @@ use Rattle.buffer.proofs.Laws.{sends}
 use Rattle.text_gauge.proofs.repeat.Statement.{statement}
 use Rattle.text_gauge.proofs.repeat.Tie as tie
 
-pub repeat-spec : {M : Type 1} → statement M
-repeat-spec = tie.close (tie.spec (λ c κs. search rules) (λ c. search rules) (λ c. sends 0 _ refl c.before.before.put.ensures refl c.before.before.before.before.before.before.requires))
+pub repeat_spec : {M : Type 1} → statement M
+repeat_spec = tie.close (tie.spec (λ c κs. search rules) (λ c. search rules) (λ c. sends 0 _ refl c.before.before.put.ensures refl c.before.before.before.before.before.before.requires))

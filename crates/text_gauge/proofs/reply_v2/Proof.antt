@@ -1,16 +1,16 @@
 -- `text_gauge::reply_v2` meets its contract.
 use native.Mathlib.Omega.{arith}
 use borrow.Author.Rules.{rules}
-use Rattle.gauge_table.proofs.Sendable.{answer-sendable}
-use Rattle.text_gauge.proofs.Sends.{sent-v2}
+use Rattle.gauge_table.proofs.Sendable.{answer_sendable}
+use Rattle.text_gauge.proofs.Sends.{sent_v2_lem}
 use Rattle.text_gauge.proofs.reply_v2.Statement.{statement}
 use Rattle.text_gauge.proofs.reply_v2.Tie as tie
 
-pub reply-v2-spec : {M : Type 1} → statement M
-reply-v2-spec =
+pub reply_v2_spec : {M : Type 1} → statement M
+reply_v2_spec =
     tie.close
     (tie.spec (λ c κs. search rules) (λ c. search rules)
     (λ c.
     let w = c.before.before.write-text-v2.ensures in
     let p = c.before.before.before.before.before.requires in
-    sent-v2 _ _ _ _ _ p.0.room (answer-sendable _ _ _ p.0.sendable p.1.1.0 p.1.1.1 (omega (arith, w.1))) w.1 (rw p.1.0 at w.0)))
+    sent_v2_lem _ _ _ _ _ p.0.room (answer_sendable _ _ _ p.0.sendable p.1.1.0 p.1.1.1 (omega (arith, w.1))) w.1 (rw p.1.0 at w.0)))

@@ -7,7 +7,7 @@ use native.Mathlib.Omega.{arith}
 use borrow.Author.Rules.{rules}
 use lib.ListN.{length, get_or, take, drop, drop_of_length-le, length-take, length-set}
 use Rattle.buffer.specs.Text.{text_of, cut}
-use Rattle.buffer.proofs.Laws.{cut-cut, cut_fits, drop-step, filled, full}
+use Rattle.buffer.proofs.Laws.{cut_cut, cut_fits, drop_step, filled, full}
 use Rattle.buffer.proofs.Text.add.Statement.{statement}
 use Rattle.buffer.proofs.Text.add.Tie as tie
 
@@ -28,7 +28,7 @@ loop-again c =
       | inl w ↦ rw (w.2, w.3) (simp length-set l.invariant.1, filled l.bytes l.len 24 b l.invariant.1 w.0.taken)
       | inr w ↦ rw (w.1, w.2) (l.invariant.1, full l.bytes l.len 24 b l.invariant.1 w.0.left)
     ] in
-    (omega arith, more.0, rw (more.1, cut-cut, append_assoc) (rw (drop-step s l.i (omega arith)) at l.invariant.2))
+    (omega arith, more.0, rw (more.1, cut_cut, append_assoc) (rw (drop_step s l.i (omega arith)) at l.invariant.2))
 
 returns : tie.Need-returns invariant-loop decreases-loop
 unfolding text_of

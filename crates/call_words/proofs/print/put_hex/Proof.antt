@@ -12,5 +12,5 @@ invariant-loop src t₀ i₀ t i = Unit
 abbrev decreases-loop : tie.decreases-loop
 decreases-loop src t₀ i₀ t i = length src - i
 
-pub put-hex-spec : {M : Type 1} → statement M
-put-hex-spec = tie.close (tie.spec invariant-loop decreases-loop (λ c. tt) (λ c. omega arith) (λ c κs. search rules) (λ c κs. search rules) (λ c κs. search rules) (λ c κs. search rules) (λ c. omega arith) (λ c. omega arith) (λ c. tt) (λ c. search rules))
+pub put_hex_spec : {M : Type 1} → statement M
+put_hex_spec = tie.close (tie.spec invariant-loop decreases-loop (λ c. tt) (λ c. omega arith) (λ c κs. search rules) (λ c κs. search rules) (λ c κs. search rules) (λ c κs. search rules) (λ c. omega arith) (λ c. omega arith) (λ c. tt) (λ c. search rules))

@@ -3,5 +3,5 @@ use mathlib.Core.Path.{refl}
 use Rattle.gauge_rules.proofs.Gauge.with_readings.Statement.{statement}
 use Rattle.gauge_rules.proofs.Gauge.with_readings.Tie as tie
 
-pub with-readings-spec : {M : Type 1} → statement M
-with-readings-spec = tie.close (tie.spec (λ c. (refl, (refl, refl))))
+pub with_readings_spec : {M : Type 1} → statement M
+with_readings_spec = tie.close (tie.spec (λ c. (refl, (refl, refl))))

@@ -3,5 +3,5 @@ use mathlib.Core.Path.{refl}
 use Rattle.gauge_rules.proofs.Gauge.with_settings.Statement.{statement}
 use Rattle.gauge_rules.proofs.Gauge.with_settings.Tie as tie
 
-pub with-settings-spec : {M : Type 1} → statement M
-with-settings-spec = tie.close (tie.spec (λ c. (refl, (refl, refl))))
+pub with_settings_spec : {M : Type 1} → statement M
+with_settings_spec = tie.close (tie.spec (λ c. (refl, (refl, refl))))

@@ -5,9 +5,9 @@ use Rattle.opg_commands.specs.Settings.{entered}
 use Rattle.opg_commands.proofs.Settings.with.Statement.{statement}
 use Rattle.opg_commands.proofs.Settings.with.Tie as tie
 
-pub with-spec : {M : Type 1} → statement M
+pub with_spec : {M : Type 1} → statement M
 unfolding entered
-with-spec =
+with_spec =
     tie.close
     (tie.spec
     (λ c. search rules)

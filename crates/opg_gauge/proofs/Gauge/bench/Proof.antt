@@ -7,9 +7,9 @@ use Rattle.opg_gauge.specs.State.{benched}
 use Rattle.opg_gauge.proofs.Gauge.bench.Statement.{statement}
 use Rattle.opg_gauge.proofs.Gauge.bench.Tie as tie
 
-pub bench-spec : {M : Type 1} → statement M
+pub bench_spec : {M : Type 1} → statement M
 unfolding benched pick
-bench-spec =
+bench_spec =
     tie.close
     (tie.spec
     (λ c κs. search rules)

@@ -5,7 +5,7 @@ use borrow.Author.Tests.{not-true, not-false}
 use Rattle.buffer.specs.First.{pick}
 use Rattle.opg_gauge.specs.Judged.{unavailable}
 use Rattle.opg_gauge.specs.Inner.{judged}
-use Rattle.opg_gauge.proofs.Laws.{refused-stays}
+use Rattle.opg_gauge.proofs.Laws.{refused_stays}
 use Rattle.opg_gauge.proofs.Gauge.held.Statement.{statement}
 use Rattle.opg_gauge.proofs.Gauge.held.Tie as tie
 
@@ -38,7 +38,7 @@ held_spec =
     tie.close
     (tie.spec
     (λ c. search rules)
-    (λ c. refused-stays c.before.args.self c.before.args.a c.match.keys2)
+    (λ c. refused_stays c.before.args.self c.before.args.a c.match.keys2)
     (λ c κs. search rules)
     returns-2
     (λ c κs. search rules)

@@ -3,5 +3,5 @@ use mathlib.Core.Path.{refl}
 use Rattle.readings.proofs.Readings.at_start.Statement.{statement}
 use Rattle.readings.proofs.Readings.at_start.Tie as tie
 
-pub at-start-spec : {M : Type 1} → statement M
-at-start-spec = tie.close (tie.spec (λ c. refl))
+pub at_start_spec : {M : Type 1} → statement M
+at_start_spec = tie.close (tie.spec (λ c. refl))

@@ -2,13 +2,13 @@
 use borrow.Author.Rules.{rules}
 use Rattle.buffer.specs.First.{pick}
 use Rattle.buffer.proofs.Rules.{rules}
-use Rattle.readings.specs.Reading.{valueText}
+use Rattle.readings.specs.Reading.{value_text}
 use Rattle.readings.proofs.Readings.text.Statement.{statement}
 use Rattle.readings.proofs.Readings.text.Tie as tie
 
-pub text-spec : {M : Type 1} → statement M
-unfolding valueText pick
-text-spec =
+pub text_spec : {M : Type 1} → statement M
+unfolding value_text pick
+text_spec =
     tie.close
     (tie.spec
     (λ c κs. search rules)

@@ -1,12 +1,12 @@
 -- `readings::Readings::with` meets its contract.
 use borrow.Author.Rules.{rules}
-use Rattle.readings.specs.Reading.{putReading}
+use Rattle.readings.specs.Reading.{put_reading}
 use Rattle.readings.proofs.Readings.with.Statement.{statement}
 use Rattle.readings.proofs.Readings.with.Tie as tie
 
-pub with-spec : {M : Type 1} → statement M
-unfolding putReading
-with-spec =
+pub with_spec : {M : Type 1} → statement M
+unfolding put_reading
+with_spec =
     tie.close
     (tie.spec
     (λ c. search rules)

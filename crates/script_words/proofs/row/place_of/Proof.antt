@@ -12,5 +12,5 @@ invariant-loop table name n k₀ k = Unit
 abbrev decreases-loop : tie.decreases-loop
 decreases-loop table name n k₀ k = length table - k
 
-pub place-of-spec : {M : Type 1} → statement M
-place-of-spec = tie.close (tie.spec invariant-loop decreases-loop (λ c. tt) (λ c κs. search rules) (λ c. search rules) (λ c. omega arith) (λ c. omega arith) (λ c. tt) (λ c. search rules))
+pub place_of_spec : {M : Type 1} → statement M
+place_of_spec = tie.close (tie.spec invariant-loop decreases-loop (λ c. tt) (λ c κs. search rules) (λ c. search rules) (λ c. omega arith) (λ c. omega arith) (λ c. tt) (λ c. search rules))

@@ -12,5 +12,5 @@ invariant-loop place letters words r₀ i₀ r i = Unit
 abbrev decreases-loop : tie.decreases-loop
 decreases-loop place letters words r₀ i₀ r i = length letters - i
 
-pub read-words-spec : {M : Type 1} → statement M
-read-words-spec = tie.close (tie.spec invariant-loop decreases-loop (λ c. tt) (λ c. omega arith) (λ c κs. search rules) (λ c. omega arith) (λ c κs. search rules) (λ c. search rules) (λ c. search rules) (λ c. search rules) (λ c κs. search rules) (λ c. omega arith) (λ c. omega arith) (λ c. tt) (λ c. search rules))
+pub read_words_spec : {M : Type 1} → statement M
+read_words_spec = tie.close (tie.spec invariant-loop decreases-loop (λ c. tt) (λ c. omega arith) (λ c κs. search rules) (λ c. omega arith) (λ c κs. search rules) (λ c. search rules) (λ c. search rules) (λ c. search rules) (λ c κs. search rules) (λ c. omega arith) (λ c. omega arith) (λ c. tt) (λ c. search rules))

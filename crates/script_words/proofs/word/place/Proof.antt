@@ -12,5 +12,5 @@ invariant-loop line k at₀ i₀ at i = at ≤ length line
 abbrev decreases-loop : tie.decreases-loop
 decreases-loop line k at₀ i₀ at i = k - i
 
-pub place-spec : {M : Type 1} → statement M
-place-spec = tie.close (tie.spec invariant-loop decreases-loop (λ c. omega arith) (λ c κs. search rules) (λ c κs. search rules) (λ c. omega arith) (λ c. search rules) (λ c. omega arith) (λ c. omega arith) (λ c. omega arith) (λ c. omega arith) (λ c. omega arith) (λ c. search rules))
+pub place_spec : {M : Type 1} → statement M
+place_spec = tie.close (tie.spec invariant-loop decreases-loop (λ c. omega arith) (λ c κs. search rules) (λ c κs. search rules) (λ c. omega arith) (λ c. search rules) (λ c. omega arith) (λ c. omega arith) (λ c. omega arith) (λ c. omega arith) (λ c. omega arith) (λ c. search rules))

@@ -13,8 +13,8 @@ invariant-loop memory₀ at word n p₀ i₀ memory p i = length memory ≡ leng
 abbrev decreases-loop : tie.decreases-loop
 decreases-loop memory₀ at word n p₀ i₀ memory p i = n - i
 
-pub put-bytes-spec : {M : Type 1} → statement M
-put-bytes-spec =
+pub put_bytes_spec : {M : Type 1} → statement M
+put_bytes_spec =
     tie.close
     (tie.spec
     invariant-loop

@@ -5,6 +5,6 @@ use Rattle.sources.specs.Source.{list_of, Counted}
 use Rattle.settings.proofs.Settings.at_factory.Statement.{statement}
 use Rattle.settings.proofs.Settings.at_factory.Tie as tie
 
-pub at-factory-spec : {M : Type 1} → statement M
+pub at_factory_spec : {M : Type 1} → statement M
 unfolding list_of Counted
-at-factory-spec = tie.close (tie.spec (λ c κs. search rules) (λ c κs. search rules) (λ c. (c.with-both.ensures.0 ∙ rw c.before.factory-transition.ensures, rw c.with-both.ensures.1)))
+at_factory_spec = tie.close (tie.spec (λ c κs. search rules) (λ c κs. search rules) (λ c. (c.with-both.ensures.0 ∙ rw c.before.factory-transition.ensures, rw c.with-both.ensures.1)))

@@ -1,12 +1,12 @@
 -- `settings::Settings::changed` meets its contract.
 use borrow.Author.Rules.{rules}
-use Rattle.settings.specs.Settings.{changedBy}
+use Rattle.settings.specs.Settings.{changed_by}
 use Rattle.settings.proofs.Settings.changed.Statement.{statement}
 use Rattle.settings.proofs.Settings.changed.Tie as tie
 
-pub changed-spec : {M : Type 1} → statement M
-unfolding changedBy
-changed-spec =
+pub changed_spec : {M : Type 1} → statement M
+unfolding changed_by
+changed_spec =
     tie.close
     (tie.spec
     (λ c. search rules)

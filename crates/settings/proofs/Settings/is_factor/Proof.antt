@@ -5,6 +5,6 @@ use Rattle.buffer.proofs.Rules.{tests}
 use Rattle.settings.proofs.Settings.is_factor.Statement.{statement}
 use Rattle.settings.proofs.Settings.is_factor.Tie as tie
 
-pub is-factor-spec : {M : Type 1} → statement M
+pub is_factor_spec : {M : Type 1} → statement M
 unfolding within
-is-factor-spec = tie.close (tie.spec (λ c. search rules) (λ c. search rules) (λ c. search tests) (λ c. search tests))
+is_factor_spec = tie.close (tie.spec (λ c. search rules) (λ c. search rules) (λ c. search tests) (λ c. search tests))

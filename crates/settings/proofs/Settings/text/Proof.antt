@@ -1,12 +1,12 @@
 -- `settings::Settings::text` meets its contract.
 use borrow.Author.Rules.{rules}
-use Rattle.settings.specs.Sent.{readText}
+use Rattle.settings.specs.Sent.{read_text}
 use Rattle.settings.proofs.Settings.text.Statement.{statement}
 use Rattle.settings.proofs.Settings.text.Tie as tie
 
-pub text-spec : {M : Type 1} → statement M
-unfolding readText
-text-spec =
+pub text_spec : {M : Type 1} → statement M
+unfolding read_text
+text_spec =
     tie.close
     (tie.spec
     (λ c. search rules)

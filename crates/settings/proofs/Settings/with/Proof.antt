@@ -5,9 +5,9 @@ use Rattle.settings.specs.Settings.{put_of}
 use Rattle.settings.proofs.Settings.with.Statement.{statement}
 use Rattle.settings.proofs.Settings.with.Tie as tie
 
-pub with-spec : {M : Type 1} → statement M
+pub with_spec : {M : Type 1} → statement M
 unfolding put_of
-with-spec =
+with_spec =
     tie.close
     (tie.spec
     (λ c. search rules)

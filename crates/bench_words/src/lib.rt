@@ -1,3 +1,4 @@
+#![tactic(auto)]
 // A bench setting in words (document 01, "Settings and readings, V2"): the text of a source and the text of a value.
 ghost use Rattle.std.specs.Prelude.{◌≡◌};
 ghost use Rattle.decimal.specs.Form.{parsed_of};
@@ -7,7 +8,7 @@ ghost use Rattle.bench_words.specs.Inner.{status_in};
 use readings::Bench;
 
 // Two words as a bench setting, or no setting.
-#[derive(Drop)]
+#[derive(Clone, Copy)]
 pub enum Worded {
     Is(Bench),
     Refused,

@@ -24,8 +24,8 @@ pub flag : (t v r : Bool) → r ≡ t → r ≡ v → t ≡ v
 flag t v r e h = sym e ∙ h
 
 -- the same where the branch is on the test's negation
-pub unflag : (t v r : Bool) → r ≡ t → not r ≡ v → not t ≡ v
-unflag t v r e h = rw e at h
+pub unflag : (t v r : Bool) → r ≡ t → r ≡ v → not t ≡ not v
+unflag t v r e h = ap not (sym e ∙ h)
 
 pub not_eqb : (a b : ℕ) → a ≡ b → not (eqb a b) ≡ false
 not_eqb a b e = ap not (eq-eqb a b e)

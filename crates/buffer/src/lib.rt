@@ -6,7 +6,7 @@ ghost use Rattle.buffer.specs.Byte.{at, within, every, leading, starts_with, sam
 ghost use Rattle.buffer.specs.Text.{text_of, cut};
 
 // An answer's number, and the length of its reply.
-#[derive(Drop)]
+#[derive(Clone, Copy)]
 pub struct Written {
     pub number: u16,
     pub len: usize,
@@ -27,7 +27,7 @@ pub fn put(out: &mut [u8], at: usize, src: &[u8])
 }
 
 // A short text: the first len of its bytes.
-#[derive(Drop)]
+#[derive(Clone, Copy)]
 pub struct Text {
     pub bytes: [u8; 24],
     pub len: usize,

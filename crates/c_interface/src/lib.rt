@@ -1,3 +1,4 @@
+#![tactic(auto)]
 // The C boundary of the proved gauges: functions of numbers and slices. include/perrezkun.h declares them for C.
 ghost use Rattle.std.specs.Prelude.{◌≡◌, length};
 ghost use Rattle.opg_crc.specs.Crc.{crc_of};

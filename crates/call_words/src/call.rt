@@ -35,7 +35,7 @@ const UNKNOWN: usize = row::NONE;
 
 // A call: its profile, its first two numbers, how many bytes its HEX have, and how many of them the first HEX of two has. What a call lacks is 0, and
 // the third profile.
-#[derive(Drop)]
+#[derive(Clone, Copy)]
 pub struct Call {
     pub kind: usize,
     pub profile: Profile,

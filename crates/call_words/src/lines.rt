@@ -16,7 +16,7 @@ const END: u8 = 3;
 pub const FAILED: u8 = 4;
 
 // Where the input stands: its bytes from i to n are still to be taken, and the line has `len` bytes, over LINE_MAX for one that is too long.
-#[derive(Drop)]
+#[derive(Clone, Copy)]
 pub struct Cursor {
     pub i: usize,
     pub n: usize,

@@ -26,7 +26,7 @@ pub const UNIT: u8 = 6;
 pub const PRESSURE: u8 = 7;
 
 // A line: a word and a text, and of an answer the `len` bytes that it has at the front of the memory lent.
-#[derive(Drop)]
+#[derive(Clone, Copy)]
 pub struct Shown {
     pub word: u8,
     pub text: Text,
@@ -85,7 +85,7 @@ pub fn answered(w: buffer::Written) -> Shown {
 }
 
 // A line's characters. What has no room is left out.
-#[derive(Drop)]
+#[derive(Clone, Copy)]
 struct Row {
     bytes: [u8; ROOM],
     len: usize,

@@ -1,3 +1,4 @@
+#![tactic(auto)]
 // Decimal numbers (document 01, "Decimal numbers"): exact values, their reader, and comparison by value.
 ghost use Rattle.std.specs.Prelude.{◌≡◌, ◌||◌, ◌+◌, ◌*◌, ◌^◌, ◌≤◌, ◌<◌, take, ltb};
 ghost use Rattle.buffer.specs.Byte.{leading, starts_with, numeral};
@@ -8,7 +9,7 @@ ghost use Rattle.decimal.specs.Inner.{Scaled};
 
 // A number: mantissa * 10 ^ place, in 10^-14. A reader gives the canonical one of each value: a mantissa of six digits, the first not
 // zero, and place 0 to 18; zero is ZERO.
-#[derive(Drop)]
+#[derive(Clone, Copy)]
 pub struct Number {
     pub mantissa: u32,
     pub place: u8,
@@ -24,7 +25,7 @@ impl Number {
 }
 
 // An exact value: digits * 10 ^ up / 10 ^ down.
-#[derive(Drop)]
+#[derive(Clone, Copy)]
 pub struct Exact {
     pub negative: bool,
     pub digits: u32,
@@ -33,14 +34,14 @@ pub struct Exact {
 }
 
 // A text of the form, with its value, or not of the form.
-#[derive(Drop)]
+#[derive(Clone, Copy)]
 pub enum Scan {
     Of(Exact),
     NoForm,
 }
 
 // What a reader of numbers answers.
-#[derive(Drop)]
+#[derive(Clone, Copy)]
 pub enum Parsed {
     Value(Number),
     Syntax,
@@ -327,7 +328,7 @@ impl Number {
 }
 
 // A size in hundredths, or another.
-#[derive(Drop)]
+#[derive(Clone, Copy)]
 pub enum Hundredths {
     Whole(u32),
     Other,

@@ -1,1 +1,2 @@
+#![tactic(auto)]
 // Document 01, "Decimal numbers": theorems only; specs/ has the statements, proofs/ the proofs.

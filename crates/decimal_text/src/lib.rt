@@ -1,3 +1,4 @@
+#![tactic(auto)]
 // Decimal numbers as they are sent (document 01, "Decimal numbers"): the written form, and the form with two decimals.
 ghost use Rattle.std.specs.Prelude.{◌≡◌, [], ◌∷◌, ◌++◌, cond, eqb, length};
 ghost use Rattle.buffer.specs.Text.{text_of, cut};

@@ -1,10 +1,11 @@
+#![tactic(auto)]
 // The six error texts of V2, and the reply column of "Answer numbers of the text gauge" (document 01).
 ghost use Rattle.std.specs.Prelude.{◌≡◌};
 ghost use Rattle.buffer.specs.Byte.{same_text};
 ghost use Rattle.error_texts.specs.Texts.{error_bytes, error_of};
 
 // The six error texts of V2.
-#[derive(Drop)]
+#[derive(Clone, Copy)]
 pub enum ErrorText {
     Length,
     Logic,

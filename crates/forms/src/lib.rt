@@ -1,3 +1,4 @@
+#![tactic(auto)]
 // The data of the settings (document 01, "Settings and readings, V2", the column "Data"), judged for slices of any length and
 // apart from frames.
 ghost use Rattle.std.specs.Prelude.{◌≡◌, [], min};
@@ -10,35 +11,35 @@ ghost use Rattle.forms.specs.Forms.{address_data, unit_data, factor_in, factor_o
 ghost use Rattle.forms.specs.Judged.{Judges};
 
 // What a write's data are: a setting with its value, or the refusal's number.
-#[derive(Drop)]
+#[derive(Clone, Copy)]
 pub enum Verdict {
     Set(settings::Setting),
     Refused(u8),
 }
 
 // A verdict, and beside it the sources of an accepted write of SM, which is empty otherwise.
-#[derive(Drop)]
+#[derive(Clone, Copy)]
 pub struct Judged {
     pub verdict: Verdict,
     pub sources: sources::Sources,
 }
 
 // One digit, or the refusal's number.
-#[derive(Drop)]
+#[derive(Clone, Copy)]
 pub enum Digit {
     Is(u8),
     Refused(u8),
 }
 
 // A number within the limits of ST, or the refusal's number.
-#[derive(Drop)]
+#[derive(Clone, Copy)]
 pub enum Limited {
     Fine(decimal::Number),
     Refused(u8),
 }
 
 // The numbers of ST's data: neither form, one number, or two.
-#[derive(Drop)]
+#[derive(Clone, Copy)]
 pub enum Ends {
     None,
     One(Limited),

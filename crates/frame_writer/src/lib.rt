@@ -1,3 +1,4 @@
+#![tactic(auto)]
 // Text frames of the protocols V1 and V2 (document 01, "Text frames" and the reply column of "Answer numbers of the text gauge"): frames and
 // error frames written into lent memory, and the end of a frameless line.
 ghost use Rattle.std.specs.Prelude.{◌≡◌, ◌++◌, ◌≤◌, length, take};

@@ -1,3 +1,4 @@
+#![tactic(auto)]
 // Text frames of the protocols V1 and V2 (document 01, "Text frames"): the checksum, and any bytes read as a
 // frame.
 ghost use Rattle.std.specs.Prelude.{◌≡◌, ◌≤◌, [], ◌∷◌, length};
@@ -24,14 +25,14 @@ pub fn checksum(s: &[u8]) -> u8
 // ---- reading
 
 // What a V1 frame says before its data.
-#[derive(Drop)]
+#[derive(Clone, Copy)]
 pub struct HeadV1 {
     pub address: u16,
     pub letter: u8,
 }
 
 // What a V2 frame says before its data: first and second are the two bytes of the command.
-#[derive(Drop)]
+#[derive(Clone, Copy)]
 pub struct HeadV2 {
     pub address: u16,
     pub access: u8,
@@ -40,7 +41,7 @@ pub struct HeadV2 {
 }
 
 // Bytes as a frame: refused with 2, 3 or 4, a V1 frame, a V2 frame whose LEN is wrong (6), or a V2 frame.
-#[derive(Drop)]
+#[derive(Clone, Copy)]
 pub enum Frame {
     Silent(u8),
     V1(HeadV1),

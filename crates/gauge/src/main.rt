@@ -1,3 +1,4 @@
+#![tactic(auto)]
 // The simulated text gauge as a program: text requests from standard input, each up to its CR, are answered on standard output. Arguments are
 // bench settings for the start, each SOURCE=VALUE, and profile=vsh or profile=vsm for a gauge of that profile.
 ghost use Rattle.std.specs.Prelude.{◌≤◌, length};
@@ -8,7 +9,7 @@ use sources::Profile;
 // ---- arguments
 
 // A gauge, and whether each setting so far was accepted.
-#[derive(Drop)]
+#[derive(Clone, Copy)]
 struct Started {
     gauge: gauge_rules::Gauge,
     ok: bool,
@@ -144,7 +145,7 @@ fn start() -> Started {
 // ---- requests
 
 // The gauge after what was read, and how many bytes of an unfinished request are kept; or nothing more can be read or written.
-#[derive(Drop)]
+#[derive(Clone, Copy)]
 struct Turn {
     gauge: gauge_rules::Gauge,
     kept: usize,
@@ -162,7 +163,7 @@ fn stop(g: gauge_rules::Gauge) -> Turn
 }
 
 // The gauge after the whole requests of the input, and how many bytes they have. Their replies are written.
-#[derive(Drop)]
+#[derive(Clone, Copy)]
 struct Answered {
     gauge: gauge_rules::Gauge,
     taken: usize,

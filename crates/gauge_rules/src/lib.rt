@@ -1,3 +1,4 @@
+#![tactic(auto)]
 // The text gauge's state and its bench, and the rules by which typed V2 requests are decided, with what they change (document 01, "Settings and
 // readings, V2").
 ghost use Rattle.std.specs.Prelude.{◌≡◌, ◌&&◌, List, [], ℕ, eqb};
@@ -13,7 +14,7 @@ ghost use Rattle.gauge_rules.specs.BenchIn.{lacked, bench_in};
 ghost use Rattle.gauge_rules.specs.RulesV2.{filament_of, changes_cathode, reads_faulty, grant_v2, sent_text, text_v2, answer_code, enter_v2};
 
 // A gauge: its profile, which no call changes, its settings, its readings with FS, and whether it is unlocked.
-#[derive(Drop)]
+#[derive(Clone, Copy)]
 pub struct Gauge {
     pub profile: sources::Profile,
     pub settings: settings::Settings,

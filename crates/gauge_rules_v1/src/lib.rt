@@ -1,3 +1,4 @@
+#![tactic(auto)]
 // The rules by which typed V1 requests are decided, with what they change (document 01, "V1 on the same settings").
 ghost use Rattle.std.specs.Prelude.{◌≡◌, List, [], ◌∷◌, ℕ, eqb};
 ghost use Rattle.buffer.specs.First.{◌⇒◌, first};

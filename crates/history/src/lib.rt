@@ -1,1 +1,2 @@
+#![tactic(auto)]
 // Definitions on histories of calls: see specs/.

@@ -1,3 +1,4 @@
+#![tactic(auto)]
 // The stream line (document 01, "Settings and readings, V2"): source 0, then the list in order, joined by `;`, and the end of a
 // frameless line.
 ghost use Rattle.std.specs.Prelude.{◌≡◌, ◌+◌, ◌≤◌, length, take, drop};

@@ -1,3 +1,4 @@
+#![tactic(auto)]
 // Decimals as people write them: document 01's form without its limit of six digits, by their value (`1013.2500`, `0.0000001`, `1000000`).
 ghost use Rattle.std.specs.Prelude.{◌≡◌, ◌≤◌, min};
 ghost use Rattle.buffer.specs.Byte.{numeral_from};

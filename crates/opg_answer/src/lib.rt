@@ -1,3 +1,4 @@
+#![tactic(auto)]
 // The simulated OPG's answer to any bytes, written into lent memory (document 01, "OPG frames").
 ghost use Rattle.std.specs.Prelude.{◌≡◌, length};
 ghost use Rattle.buffer.specs.Answer.{Sent};
@@ -9,7 +10,7 @@ use opg_gauge::{Gauge, Pressure};
 use opg_request_reader::Asked;
 
 // A gauge after a call, and the call's answer.
-#[derive(Drop)]
+#[derive(Clone, Copy)]
 pub struct Answered {
     pub gauge: Gauge,
     pub written: buffer::Written,

@@ -1,3 +1,4 @@
+#![tactic(auto)]
 // The OPG's commands (document 01, "OPG frames"): typed requests, the settings with their factory values and limits, and what a request
 // changes.
 ghost use Rattle.std.specs.Prelude.{◌≡◌};
@@ -5,7 +6,7 @@ ghost use Rattle.opg_commands.specs.Request.{request_pid, reply_cmd, reply_count
 ghost use Rattle.opg_commands.specs.Settings.{entered};
 
 // A request: one case for each PID and access, with its data. Residual gas detection switched off has neither spectra nor gas.
-#[derive(Drop)]
+#[derive(Clone, Copy)]
 pub enum Request {
     // PID 14000 read: the unit, 0 to 4
     ReadPressure(u8),
@@ -20,7 +21,7 @@ pub enum Request {
 }
 
 // The settings: the master unit, and residual gas detection.
-#[derive(Drop)]
+#[derive(Clone, Copy)]
 pub struct Settings {
     pub unit: u8,
     pub mode: u8,

@@ -1,3 +1,4 @@
+#![tactic(auto)]
 // The CRC of OPG frames (document 01, "OPG frames").
 ghost use Rattle.std.specs.Prelude.{◌≡◌, ◌<◌};
 ghost use Rattle.opg_crc.specs.Crc.{crc_of};

@@ -1,3 +1,4 @@
+#![tactic(auto)]
 // OPG frames written into lent memory (document 01, "OPG frames").
 ghost use Rattle.std.specs.Prelude.{length, take};
 ghost use Rattle.buffer.specs.Answer.{Stored, Sent};

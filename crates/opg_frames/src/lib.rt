@@ -1,3 +1,4 @@
+#![tactic(auto)]
 // OPG frames (document 01, "OPG frames"): the parts of any bytes as a frame.
 ghost use Rattle.std.specs.Prelude.{◌≡◌};
 ghost use Rattle.opg_frames.specs.Frame.{len_of, cmd_of, pid_of, count_of, misshapen, foreign, wrong_crc, wrong_version, acknowledges, indexed};

@@ -1,3 +1,4 @@
+#![tactic(auto)]
 // The simulated OPG (document 01, "OPG frames"): its state, the bench, what any bytes ask of it, and what they
 // change.
 ghost use Rattle.std.specs.Prelude.{◌≡◌};
@@ -9,21 +10,21 @@ use opg_commands::{Request, Settings};
 use opg_request_reader::Asked;
 
 // The pressure: the 32 bits of an f32 in mbar, or unavailable.
-#[derive(Drop)]
+#[derive(Clone, Copy)]
 pub enum Pressure {
     Bits(u32),
     Unavailable,
 }
 
 // The gauge.
-#[derive(Drop)]
+#[derive(Clone, Copy)]
 pub struct Gauge {
     pub settings: Settings,
     pub pressure: Pressure,
 }
 
 // A gauge after a bench setting, and the setting's number.
-#[derive(Drop)]
+#[derive(Clone, Copy)]
 pub struct BenchAnswer {
     pub gauge: Gauge,
     pub number: u16,

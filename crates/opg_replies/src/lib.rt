@@ -1,3 +1,4 @@
+#![tactic(auto)]
 // Replies of an OPG as the master reads them (document 01, "The master's side").
 ghost use Rattle.std.specs.Prelude.{◌≡◌};
 ghost use Rattle.buffer.specs.Byte.{word_at};
@@ -6,7 +7,7 @@ ghost use Rattle.opg_replies.specs.Reply.{is_error, other_reply, needed_of, wron
 use opg_commands::{Request, Settings};
 
 // A decoded reply: a pressure, a unit, a done or an error.
-#[derive(Drop)]
+#[derive(Clone, Copy)]
 pub enum Reply {
     Pressure(f32),
     Unit(u8),
@@ -15,7 +16,7 @@ pub enum Reply {
 }
 
 // Bytes as the reply to a request: refused with this number, or a reply.
-#[derive(Drop)]
+#[derive(Clone, Copy)]
 pub enum ReadOpg {
     Refused(u8),
     Read(Reply),

@@ -1,3 +1,4 @@
+#![tactic(auto)]
 // The value taken out of a decoded reply of an OPG (document 01, "The master's side"): a reply of another kind never yields one.
 ghost use Rattle.std.specs.Prelude.{◌≡◌};
 ghost use Rattle.opg_reply_kinds.specs.Kind.{no_value, expected, as_measured, as_unit};
@@ -5,14 +6,14 @@ ghost use Rattle.opg_reply_kinds.specs.Kind.{no_value, expected, as_measured, as
 use opg_replies::Reply;
 
 // What a master gets who asked for the pressure.
-#[derive(Drop)]
+#[derive(Clone, Copy)]
 pub enum Measured {
     Value(f32),
     Refused(u16),
 }
 
 // For the unit.
-#[derive(Drop)]
+#[derive(Clone, Copy)]
 pub enum UnitRead {
     Value(u8),
     Refused(u16),

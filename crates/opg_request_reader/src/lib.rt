@@ -1,3 +1,4 @@
+#![tactic(auto)]
 // The requests of the OPG protocol (document 01, "OPG frames"): any bytes read as one.
 ghost use Rattle.std.specs.Prelude.{◌≡◌};
 ghost use Rattle.buffer.specs.Byte.{word_at};
@@ -6,7 +7,7 @@ ghost use Rattle.opg_request_reader.specs.Asked.{wrong_shape, unknown_cmd, unkno
 use opg_commands::{Request, Settings};
 
 // Bytes as a request: refused with no reply under this number, refused with this error byte, or a request.
-#[derive(Drop)]
+#[derive(Clone, Copy)]
 pub enum Asked {
     Silent(u8),
     Error(u8),

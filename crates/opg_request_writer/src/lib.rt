@@ -1,3 +1,4 @@
+#![tactic(auto)]
 // The master's requests to an OPG, written into lent memory (document 01, "The master's side").
 ghost use Rattle.std.specs.Prelude.{◌≡◌, length};
 ghost use Rattle.buffer.specs.Answer.{Sent};

@@ -1,3 +1,4 @@
+#![tactic(auto)]
 // Pressures of the OPG (document 01, "OPG frames"): an f32 by its 32 bits, in each unit.
 ghost use Rattle.std.specs.Prelude.{◌≡◌};
 ghost use Rattle.opg_units.specs.Units.{finite, measurable, bits_in};

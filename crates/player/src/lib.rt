@@ -1,3 +1,4 @@
+#![tactic(auto)]
 // Plays a sequence of calls, written as bytes (a script), on one text gauge and one OPG from factory settings on, and keeps each answer.
 ghost use Rattle.std.specs.Prelude.{◌≡◌, true, false, [], ◌<◌, ◌≤◌, length};
 ghost use Rattle.script.specs.declared.To.TheVariants.{Text, Opg};
@@ -5,7 +6,7 @@ ghost use Rattle.player.specs.Played.{asked, lined, bench_set, opg_bench_set, Ra
 ghost use Rattle.player.specs.Inner.{Traces, Made, One};
 
 // The two gauges.
-#[derive(Drop)]
+#[derive(Clone, Copy)]
 pub struct Gauges {
     pub text: gauge_rules::Gauge,
     pub opg: opg_gauge::Gauge,
@@ -13,7 +14,7 @@ pub struct Gauges {
 
 // After one call: the gauges, where the next call and the memory not yet lent begin, and the answer's number and length. Or no call was
 // made, and more is false.
-#[derive(Drop)]
+#[derive(Clone, Copy)]
 struct Turn {
     pub gauges: Gauges,
     pub at: usize,
@@ -24,7 +25,7 @@ struct Turn {
 }
 
 // The gauges that the calls left, and how many calls there were.
-#[derive(Drop)]
+#[derive(Clone, Copy)]
 pub struct Played {
     pub gauges: Gauges,
     pub calls: usize,

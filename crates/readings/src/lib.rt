@@ -1,3 +1,4 @@
+#![tactic(auto)]
 // The readings of the text gauge and its FS (document 01, "Settings and readings, V2"): how they start, what the bench sets, and the
 // texts that they are sent as.
 ghost use Rattle.std.specs.Prelude.{◌≡◌};
@@ -9,7 +10,7 @@ ghost use Rattle.readings.specs.Bench.{takes, pressure_at, temperature_at, press
 ghost use Rattle.readings.specs.Measure.{six_of, rounded_text, measure_text};
 
 // A pressure: a number of mbar, under or over range, or faulty.
-#[derive(Drop)]
+#[derive(Clone, Copy)]
 pub enum Pressure {
     Measured(decimal::Number),
     UnderRange,
@@ -25,14 +26,14 @@ impl Pressure {
 }
 
 // A temperature: whether it is below zero, and its size in hundredths of a degree; or faulty.
-#[derive(Drop)]
+#[derive(Clone, Copy)]
 pub enum Temperature {
     Degrees(bool, u16),
     Faulty,
 }
 
 // A reading by its source, or FS: one case for each.
-#[derive(Drop)]
+#[derive(Clone, Copy)]
 pub enum Reading {
     P0(Pressure),
     P1(Pressure),
@@ -45,7 +46,7 @@ pub enum Reading {
 }
 
 // The readings of all sources, and FS.
-#[derive(Drop)]
+#[derive(Clone, Copy)]
 pub struct Readings {
     pub p0: Pressure,
     pub p1: Pressure,
@@ -58,7 +59,7 @@ pub struct Readings {
 }
 
 // A bench setting: the bench is document 01's term for what sets the readings from outside. Any values may come. A source is named by its code: its digit, 8 for `T2`, 9 for `T6`.
-#[derive(Drop)]
+#[derive(Clone, Copy)]
 pub enum Bench {
     // the source reads this value
     Reads(u8, decimal::Exact),
@@ -73,7 +74,7 @@ pub enum Bench {
 }
 
 // A bench setting accepted as a reading, or refused (15).
-#[derive(Drop)]
+#[derive(Clone, Copy)]
 pub enum Benched {
     Accepted(Reading),
     Refused,

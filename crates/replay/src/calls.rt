@@ -13,21 +13,21 @@ const BYTES_MAX: usize = 32768;
 const LENT_MAX: usize = 256;
 
 // The gauges.
-#[derive(Drop)]
+#[derive(Clone, Copy)]
 pub struct World {
     pub text: gauge_rules::Gauge,
     pub opg: opg_gauge::Gauge,
 }
 
 // The gauges after a call, and what it prints.
-#[derive(Drop)]
+#[derive(Clone, Copy)]
 struct Done {
     world: World,
     shown: Shown,
 }
 
 // The gauges after a call, and whether what it says was written.
-#[derive(Drop)]
+#[derive(Clone, Copy)]
 pub struct Played {
     pub world: World,
     pub ok: bool,

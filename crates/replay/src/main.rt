@@ -1,3 +1,4 @@
+#![tactic(auto)]
 // Plays a script from standard input on one text gauge and one OPG, from factory settings and the bench's start on, and prints one line
 // for each call. A call is a line: words separated by one space, and LF; the last line may end without LF. HEX is an even number of
 // digits 0-9 and a-f, or `-` for no bytes. LENT is the length of the answer memory, 0 to 256, which holds a5 before each call. PROFILE is `vsh` or
@@ -32,7 +33,7 @@ use lines::Cursor;
 mod calls;
 
 // The gauges and the input after a turn, and whether there is another.
-#[derive(Drop)]
+#[derive(Clone, Copy)]
 struct Turn {
     world: calls::World,
     cursor: Cursor,

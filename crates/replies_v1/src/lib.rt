@@ -1,3 +1,4 @@
+#![tactic(auto)]
 // V1 replies as the master reads them (document 01, "The master's side").
 ghost use Rattle.std.specs.Prelude.{◌≡◌};
 ghost use Rattle.buffer.specs.Byte.{at};
@@ -8,7 +9,7 @@ use error_texts::ErrorText;
 use requests::RequestV1;
 
 // A decoded reply. Reads carries the mantissa and the exponent plus 20, Factor hundredths.
-#[derive(Drop)]
+#[derive(Clone, Copy)]
 pub enum ReplyV1 {
     Reads(u16, u8),
     UnderRange,
@@ -20,7 +21,7 @@ pub enum ReplyV1 {
 }
 
 // Bytes as the reply to a request: a reply, or refused with this number.
-#[derive(Drop)]
+#[derive(Clone, Copy)]
 pub enum ReadV1 {
     Read(ReplyV1),
     Refused(u8),

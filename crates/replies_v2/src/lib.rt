@@ -1,3 +1,4 @@
+#![tactic(auto)]
 // Replies of the text gauge in V2, as the master reads them (document 01, "The master's side").
 ghost use Rattle.std.specs.Prelude.{◌≡◌};
 ghost use Rattle.buffer.specs.Byte.{at, is_digit, same_text};

@@ -1,3 +1,4 @@
+#![tactic(auto)]
 // Values in V2 replies (document 01, "The master's side"): the data of a reply to a read.
 ghost use Rattle.std.specs.Prelude.{◌≡◌, []};
 ghost use Rattle.decimal.specs.Form.{parsed_number};
@@ -9,7 +10,7 @@ ghost use Rattle.replies_v2_values.specs.Value.{measured_reply, pressure_reply, 
 use requests::Command;
 
 // A decoded reply.
-#[derive(Drop)]
+#[derive(Clone, Copy)]
 pub enum ReplyV2 {
     // MV: a number, `UR` or `OR`
     Measured(decimal::Number),
@@ -30,14 +31,14 @@ pub enum ReplyV2 {
 }
 
 // Bytes as the reply to a request: a reply, or refused with this number.
-#[derive(Drop)]
+#[derive(Clone, Copy)]
 pub enum ReadV2 {
     Read(ReplyV2),
     Refused(u8),
 }
 
 // What the bytes are read as, and beside it the sources of an accepted read of SM.
-#[derive(Drop)]
+#[derive(Clone, Copy)]
 pub struct AnswerV2 {
     pub read: ReadV2,
     pub sources: sources::Sources,

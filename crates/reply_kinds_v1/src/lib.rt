@@ -1,3 +1,4 @@
+#![tactic(auto)]
 // The value taken out of a decoded V1 reply (document 01, "The master's side"): a reply of another kind never yields one.
 ghost use Rattle.std.specs.Prelude.{◌≡◌};
 ghost use Rattle.reply_kinds_v1.specs.Kind.{no_value, no_pressure, expected, as_measured, as_factor, as_unit};
@@ -5,21 +6,21 @@ ghost use Rattle.reply_kinds_v1.specs.Kind.{no_value, no_pressure, expected, as_
 use replies_v1::ReplyV1;
 
 // What a master gets who asked for the pressure: the mantissa, and the exponent plus 20.
-#[derive(Drop)]
+#[derive(Clone, Copy)]
 pub enum MeasuredV1 {
     Value(u16, u8),
     Refused(u8),
 }
 
 // For the factor, in hundredths.
-#[derive(Drop)]
+#[derive(Clone, Copy)]
 pub enum FactorReadV1 {
     Value(u16),
     Refused(u8),
 }
 
 // For the unit.
-#[derive(Drop)]
+#[derive(Clone, Copy)]
 pub enum UnitReadV1 {
     Value(settings::PressureUnit),
     Refused(u8),

@@ -1,3 +1,4 @@
+#![tactic(auto)]
 // The value taken out of a decoded V2 reply (document 01, "The master's side"): a reply of another kind never yields one.
 ghost use Rattle.std.specs.Prelude.{◌≡◌};
 ghost use Rattle.reply_kinds_v2.specs.Kind.{no_value, no_pressure, expected, as_measured, as_degrees, as_filament, as_status, as_setting};
@@ -5,28 +6,28 @@ ghost use Rattle.reply_kinds_v2.specs.Kind.{no_value, no_pressure, expected, as_
 use replies_v2_values::ReplyV2;
 
 // What a master gets who asked for MV.
-#[derive(Drop)]
+#[derive(Clone, Copy)]
 pub enum MeasuredV2 {
     Value(decimal::Number),
     Refused(u8),
 }
 
 // For T2: whether it is below zero, and its size in hundredths of a degree.
-#[derive(Drop)]
+#[derive(Clone, Copy)]
 pub enum DegreesV2 {
     Value(bool, u16),
     Refused(u8),
 }
 
 // For FN or FS.
-#[derive(Drop)]
+#[derive(Clone, Copy)]
 pub enum DigitV2 {
     Value(u8),
     Refused(u8),
 }
 
 // For a setting.
-#[derive(Drop)]
+#[derive(Clone, Copy)]
 pub enum SettingV2 {
     Value(settings::Setting),
     Refused(u8),

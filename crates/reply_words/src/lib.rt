@@ -1,3 +1,4 @@
+#![tactic(auto)]
 // A reply in words: read by the reader of its request's kind (document 01, "The master's side").
 use call_words::print;
 use opg_request_reader::Asked;

@@ -1,3 +1,4 @@
+#![tactic(auto)]
 // Any bytes read as a typed request to a text gauge, whatever the gauge's state (document 01, "The master's side").
 ghost use Rattle.std.specs.Prelude.{◌≡◌, []};
 ghost use Rattle.sources.specs.Source.{list_of, Counted};
@@ -8,7 +9,7 @@ use requests::{AskV1, AskV2, RequestV1, RequestV2};
 use settings::Settings;
 
 // A typed request and its address, or the refusal's number.
-#[derive(Drop)]
+#[derive(Clone, Copy)]
 pub enum Request {
     V1(u16, RequestV1),
     V2(u16, RequestV2),
@@ -16,7 +17,7 @@ pub enum Request {
 }
 
 // What bytes are as a request, and beside it the sources of an accepted write of SM, which is empty otherwise.
-#[derive(Drop)]
+#[derive(Clone, Copy)]
 pub struct Decoded {
     pub request: Request,
     pub sources: sources::Sources,

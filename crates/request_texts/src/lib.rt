@@ -1,3 +1,4 @@
+#![tactic(auto)]
 // What typed requests are sent as (document 01, "Settings and readings, V2" and "V1 on the same settings"): the head and the data of their
 // frames.
 ghost use Rattle.std.specs.Prelude.{◌≡◌};

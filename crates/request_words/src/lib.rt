@@ -1,3 +1,4 @@
+#![tactic(auto)]
 // A typed request in words, written (document 01, "The master's side"). Each value is any that its type has, so that the writers' refusals show.
 use call_words::{call, print};
 use opg_commands::Request;
@@ -8,19 +9,19 @@ use settings::{Setting, Transition};
 use sources::Profile;
 
 // Words as a request, or no request.
-#[derive(Drop)]
+#[derive(Clone, Copy)]
 enum TypedV2 {
     Is(RequestV2),
     Isnt,
 }
 
-#[derive(Drop)]
+#[derive(Clone, Copy)]
 enum TypedV1 {
     Is(RequestV1),
     Isnt,
 }
 
-#[derive(Drop)]
+#[derive(Clone, Copy)]
 enum TypedOpg {
     Is(Request),
     Isnt,

@@ -1,3 +1,4 @@
+#![tactic(auto)]
 // The master's requests to a text gauge, written into lent memory (document 01, "The master's side").
 ghost use Rattle.std.specs.Prelude.{◌≡◌, true, not, ◌&&◌, ◌≤◌, eqb, length};
 ghost use Rattle.frame_writer.specs.Written.{is_address};

@@ -1,3 +1,4 @@
+#![tactic(auto)]
 // Requests to the text gauge (document 01, "Settings and readings, V2" and "V1 on the same settings"): what a frame asks, whatever the
 // gauge's state.
 ghost use Rattle.std.specs.Prelude.{◌≡◌, []};
@@ -12,7 +13,7 @@ ghost use Rattle.requests.specs.declared.Command.{Command};
 // ---- V2
 
 // The commands of V2: four that are only read, and the settings.
-#[derive(Drop)]
+#[derive(Clone, Copy)]
 pub enum Command {
     MV,
     T2,
@@ -22,7 +23,7 @@ pub enum Command {
 }
 
 // A V2 request. SM's list of sources stands beside it.
-#[derive(Drop)]
+#[derive(Clone, Copy)]
 pub enum RequestV2 {
     Read(Command),
     Restore(Command),
@@ -30,21 +31,21 @@ pub enum RequestV2 {
 }
 
 // What a V2 frame asks, or the refusal's number.
-#[derive(Drop)]
+#[derive(Clone, Copy)]
 pub enum AskV2 {
     Asks(RequestV2),
     Refused(u8),
 }
 
 // What a V2 frame asks, and beside it the sources of an accepted write of SM.
-#[derive(Drop)]
+#[derive(Clone, Copy)]
 pub struct AskedV2 {
     pub ask: AskV2,
     pub sources: sources::Sources,
 }
 
 // A command by its two bytes.
-#[derive(Drop)]
+#[derive(Clone, Copy)]
 pub enum Named {
     Known(Command),
     Unknown,
@@ -234,7 +235,7 @@ pub fn read_v2(profile: sources::Profile, head: frames::HeadV2, bytes: &[u8]) ->
 // ---- V1
 
 // A V1 request. SetFactor carries the number that its six digits spell.
-#[derive(Drop)]
+#[derive(Clone, Copy)]
 pub enum RequestV1 {
     // M
     Measure,
@@ -251,7 +252,7 @@ pub enum RequestV1 {
 }
 
 // What a V1 frame asks, or the refusal's number.
-#[derive(Drop)]
+#[derive(Clone, Copy)]
 pub enum AskV1 {
     Asks(RequestV1),
     Refused(u8),

@@ -1,3 +1,4 @@
+#![tactic(auto)]
 // Requests read and written again: any bytes to the one form in which the master sends what they ask.
 ghost use Rattle.std.specs.Prelude.{length};
 ghost use Rattle.buffer.specs.Answer.{Sent};

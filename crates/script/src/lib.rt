@@ -1,3 +1,4 @@
+#![tactic(auto)]
 // Calls written as bytes: the call that stands at a place of a script.
 //
 // A script is calls of a text gauge and of an OPG, one after another. A number of two or four bytes has its high byte first.
@@ -13,14 +14,14 @@ ghost use Rattle.buffer.specs.Byte.{pair_of};
 ghost use Rattle.script.specs.Script.{request_of, line_of, exact_at, setting_of, pressure_of, call_of, call_at, Fits};
 
 // The gauge that a request is for.
-#[derive(Drop)]
+#[derive(Clone, Copy)]
 pub enum To {
     Text,
     Opg,
 }
 
 // A call of a script.
-#[derive(Drop)]
+#[derive(Clone, Copy)]
 pub enum Call {
     // how many bytes are lent, and how many the request has
     Request(To, usize, usize),

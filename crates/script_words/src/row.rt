@@ -16,7 +16,7 @@ const WIDTH: usize = 16;
 const MOST: usize = 9;
 
 // The row that words fit, by its place, and the numbers that they stand for. NONE is past every table.
-#[derive(Drop)]
+#[derive(Clone, Copy)]
 pub struct Row {
     pub place: usize,
     pub numbers: [usize; MOST],

@@ -7,7 +7,7 @@ const MOST: usize = 16;
 pub const NOWHERE: usize = 1000000;
 
 // What a word reads as: a number, or nothing.
-#[derive(Drop)]
+#[derive(Clone, Copy)]
 pub(crate) enum Read {
     Is(usize),
     Isnt,

@@ -1,3 +1,4 @@
+#![tactic(auto)]
 // A stream of text requests served by one gauge: the whole requests that stand in lent bytes are answered in order, and an unfinished end is
 // kept for the bytes that follow it.
 ghost use Rattle.std.specs.Prelude.{◌≡◌, ◌≤◌, min, length};
@@ -6,7 +7,7 @@ ghost use Rattle.gauge_rules.specs.State.{state_of};
 ghost use Rattle.service.specs.Served.{most_kept, Serves, Keeps};
 
 // The gauge after the requests, how many bytes they have, and how many bytes their replies have.
-#[derive(Drop)]
+#[derive(Clone, Copy)]
 pub struct Served {
     pub gauge: gauge_rules::Gauge,
     pub taken: usize,

@@ -1,3 +1,4 @@
+#![tactic(auto)]
 // The settings of the text gauge (document 01, "Settings and readings, V2"): factory values, limits, what a write or a restore
 // changes, and the texts that reads send.
 ghost use Rattle.std.specs.Prelude.{◌≡◌, [], ◌∷◌};
@@ -11,7 +12,7 @@ ghost use Rattle.settings.specs.Units.{unit_code, unit_named};
 ghost use Rattle.settings.specs.Sent.{unit_text, transition_text, stream_text, read_text};
 
 // The unit of pressure, DU.
-#[derive(Drop)]
+#[derive(Clone, Copy)]
 pub enum PressureUnit {
     Mbar,
     Torr,
@@ -28,21 +29,21 @@ impl PressureUnit {
 }
 
 // What a number of V1 names: a unit, or none.
-#[derive(Drop)]
+#[derive(Clone, Copy)]
 pub enum NamedUnit {
     Unit(PressureUnit),
     None,
 }
 
 // The transition of ST: a direct switch, or one between two ends.
-#[derive(Drop)]
+#[derive(Clone, Copy)]
 pub enum Transition {
     Direct(decimal::Number),
     Between(decimal::Number, decimal::Number),
 }
 
 // The settings by their commands: the table's rows with a write.
-#[derive(Drop)]
+#[derive(Clone, Copy)]
 pub enum Key {
     DA,
     DU,
@@ -56,7 +57,7 @@ pub enum Key {
 
 // A setting and its value: one case for each command, the factor in hundredths. Stream says whether lines are sent (mode 4); the
 // list of sources stands beside it.
-#[derive(Drop)]
+#[derive(Clone, Copy)]
 pub enum Setting {
     // DA
     Address(u8),
@@ -77,7 +78,7 @@ pub enum Setting {
 }
 
 // The settings. The list counts while lines are sent.
-#[derive(Drop)]
+#[derive(Clone, Copy)]
 pub struct Settings {
     pub address: u8,
     pub unit: PressureUnit,
@@ -91,14 +92,14 @@ pub struct Settings {
 }
 
 // Nothing, or the value of one setting.
-#[derive(Drop)]
+#[derive(Clone, Copy)]
 pub enum Put {
     Nothing,
     Value(Setting),
 }
 
 // What a request changes: what it puts, and the sources that count where it puts Stream.
-#[derive(Drop)]
+#[derive(Clone, Copy)]
 pub struct Change {
     pub sources: sources::Sources,
     pub put: Put,

@@ -1,3 +1,4 @@
+#![tactic(auto)]
 // The profiles of a text gauge, the sources that each offers for the stream line, and lists of them (document 01, "Settings and readings, V2";
 // document 02, "No repeated sources", "Hot cathode gauges").
 ghost use Rattle.std.specs.Prelude.{◌≡◌, [], ◌∷◌, ◌++◌, length};
@@ -8,7 +9,7 @@ ghost use Rattle.sources.specs.Entries.{opens, Lists};
 ghost use Rattle.sources.specs.Inner.{offered_as, Taken, Ran};
 
 // The profiles: VSH and VSM, the hot cathode gauges, and the gauge of document 01. Where none is named, it is Standard.
-#[derive(Drop)]
+#[derive(Clone, Copy)]
 pub enum Profile {
     Standard,
     Vsh,
@@ -16,14 +17,14 @@ pub enum Profile {
 }
 
 // A list of sources by their codes: a source's digit, 8 for `T2`, 9 for `T6`. The first `count` of the codes.
-#[derive(Drop)]
+#[derive(Clone, Copy)]
 pub struct Sources {
     pub codes: [u8; 7],
     pub count: usize,
 }
 
 // The text of an entry's source: known by its code, of the form but unknown here, or not of the form.
-#[derive(Drop)]
+#[derive(Clone, Copy)]
 pub enum Source {
     Known(u8),
     Unknown,
@@ -252,7 +253,7 @@ fn offered(profile: Profile, e: Source) -> Source
 }
 
 // The entries that were read: whether each has the form, whether each is known, and those that found a place.
-#[derive(Drop)]
+#[derive(Clone, Copy)]
 pub struct Run {
     pub formed: bool,
     pub known: bool,
@@ -312,7 +313,7 @@ fn is_open(s: &[u8]) -> bool
 }
 
 // A text of entries as a list: 0, 10 SYNTAX, 11 RANGE or 12 LOGIC, and the list, which is empty where it is refused.
-#[derive(Drop)]
+#[derive(Clone, Copy)]
 pub struct Listed {
     pub number: u8,
     pub sources: Sources,

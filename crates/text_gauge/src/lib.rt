@@ -1,3 +1,4 @@
+#![tactic(auto)]
 // The simulated text gauge: any bytes answered in lent memory, V1 and V2 from one set of settings; its bench and its stream line.
 ghost use Rattle.std.specs.Prelude.{◌≡◌, true, [], ◌∷◌, ◌≤◌, length};
 ghost use Rattle.buffer.specs.Byte.{is_digit, Printed};
@@ -18,14 +19,14 @@ ghost use Rattle.text_gauge.specs.Answer.{Answers, Decides, Benches};
 ghost use Rattle.text_gauge.specs.Inner.{Fits, DecidesV2, DecidesV1};
 
 // The gauge after a request, and what it answered.
-#[derive(Drop)]
+#[derive(Clone, Copy)]
 pub struct Answered {
     pub gauge: gauge_rules::Gauge,
     pub written: buffer::Written,
 }
 
 // What a request does: what was answered, what it changes, and whether the gauge is unlocked afterwards.
-#[derive(Drop)]
+#[derive(Clone, Copy)]
 pub struct Decided {
     pub written: buffer::Written,
     pub change: settings::Change,
@@ -33,7 +34,7 @@ pub struct Decided {
 }
 
 // The gauge after a bench setting, and the answer's number.
-#[derive(Drop)]
+#[derive(Clone, Copy)]
 pub struct BenchAnswer {
     pub gauge: gauge_rules::Gauge,
     pub number: u16,

@@ -8,24 +8,16 @@ use Rattle.buffer.proofs.Laws.{cut_cut, cut_fits}
 use Rattle.sources.specs.Source.{list_of, list_text}
 use Rattle.sources.proofs.Laws.{list_text_le, list_few}
 use Rattle.settings.specs.Sent.{stream_text}
-use Rattle.settings.proofs.stream_text.Statement.{statement}
-use Rattle.settings.proofs.stream_text.Tie as tie
+use Rattle.settings.proofs.stream_text.Goals as goal
 
-returns : tie.Need-returns
+pub returns-then-on : goal.returns-then-on
 unfolding stream_text text_of
-returns c =
-    let q = c.before.before.before.args.list in
+returns-then-on c =
+    let q = c.args.list in
     let few = list_few q (search rules) in
-    rw (c.before.before.if1.true, c.with_list.ensures, c.before.push.ensures, cut_cut)
+    rw (c.if-on.true, c.with_list.ensures, c.push.ensures, cut_cut)
     (cut_fits ((52 ∷ []) ++ list_text (list_of q)) (simp length-append (omega (arith, list_text_le (list_of q), few))))
 
-pub stream_text_spec : {M : Type 1} → statement M
+pub returns : goal.returns
 unfolding stream_text text_of cut
-stream_text_spec =
-    tie.close
-    (tie.spec
-    (λ c κs. search rules)
-    (λ c κs. search rules)
-    returns
-    (λ c κs. search rules)
-    (λ c. rw c.before.if1.false c.push2.ensures))
+returns c = rw c.if-on.false c.push-2.ensures

@@ -5,7 +5,7 @@ use borrow.Author.Tests.{lt-leb, not-false}
 use Rattle.buffer.specs.First.{◌⇒◌, pick, first}
 use Rattle.buffer.specs.Byte.{at, within, is_digit, every, numeral_from, numeral}
 use Rattle.buffer.proofs.Laws.{drop_step, within_true}
-use Rattle.buffer.proofs.Rules.{each, flag, unflag, not_eqb, not_neqb}
+use Rattle.buffer.proofs.Rules.{each, flag, not_eqb, not_neqb}
 use Rattle.frames.specs.Checksum.{sum_of, checksum_of}
 use Rattle.frames.specs.Frame.{is_letter, body, sum_byte, last_byte, length_fits, misshapen, wrong_sum, wrong_address, wrong_length, head_v1, head_v2, frame_of}
 use Rattle.frames.specs.declared.Frame.{Frame}
@@ -169,17 +169,22 @@ numeral_part n s h = ap (numeral_from 0) (take_all 6 (take n s) (simp length-tak
 
 -- ---- tests that a function made
 
+-- the negation of a test whose result is the negation of v
+turned : (t v r : Bool) → r ≡ t → r ≡ not v → not t ≡ v
+turned t true r e h = ap not (sym e ∙ h)
+turned t false r e h = ap not (sym e ∙ h)
+
 pub within_flag : (low high b : ℕ) (v r : Bool) → r ≡ within low high b → r ≡ v → within low high b ≡ v
 within_flag low high b v r = flag (within low high b) v r
 
 pub letter_flag : (b : ℕ) (v r : Bool) → r ≡ is_letter b → r ≡ v → is_letter b ≡ v
 letter_flag b v r = flag (is_letter b) v r
 
-pub fits_unflag : (s : List ℕ) (v r : Bool) → r ≡ length_fits s → not r ≡ v → not (length_fits s) ≡ v
-fits_unflag s v r = unflag (length_fits s) v r
+pub fits_unflag : (s : List ℕ) (v r : Bool) → r ≡ length_fits s → r ≡ not v → not (length_fits s) ≡ v
+fits_unflag s v r = turned (length_fits s) v r
 
-pub digits_unflag : (s : List ℕ) (v r : Bool) → r ≡ every (within 48 57) s → not r ≡ v → not (every is_digit s) ≡ v
-digits_unflag s v r = unflag (every is_digit s) v r
+pub digits_unflag : (s : List ℕ) (v r : Bool) → r ≡ every (within 48 57) s → r ≡ not v → not (every is_digit s) ≡ v
+digits_unflag s v r = turned (every is_digit s) v r
 
 pub address_flag : (s : List ℕ) (v r : Bool) → r ≡ wrong_address s → r ≡ v → wrong_address s ≡ v
 address_flag s v r = flag (wrong_address s) v r

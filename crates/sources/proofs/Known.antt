@@ -1,6 +1,6 @@
 -- The source of a text: one that is known is one of the codes, and the text is its own.
 use mathlib.Core.Path.{◌≡◌, refl}
-use mathlib.Core.Bool.{true, not, ◌&&◌, or_true}
+use mathlib.Core.Bool.{true, not, ◌&&◌, or-true}
 use mathlib.Core.List.{List, [], ◌∷◌, map}
 use Prim.Native.Nat.{ℕ}
 use native.Mathlib.Omega.{arith}
@@ -21,7 +21,7 @@ Named codes t Malformed = Unit {0}
 
 wider : (d : ℕ) (codes t : List ℕ) (r : Source) → Named codes t r → Named (d ∷ codes) t r
 unfolding among
-wider d codes t (Known c) h = (rw h.0 (or_true (eqb c d)), h.1)
+wider d codes t (Known c) h = (rw h.0 (or-true (eqb c d)), h.1)
 wider d codes t Unknown h = tt
 wider d codes t Malformed h = tt
 

@@ -1,5 +1,5 @@
 -- The sources of each profile: `0` is one of them, each has a place in a list, and a source is theirs or unknown.
-use mathlib.Core.Path.{◌≡◌, refl, ap}
+use mathlib.Core.Path.{◌≡◌, refl}
 use mathlib.Core.Bool.{Bool, true, false, not}
 use mathlib.Core.List.{List}
 use Prim.Native.Nat.{ℕ, ◌≤◌}

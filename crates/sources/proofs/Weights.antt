@@ -1,6 +1,6 @@
 -- Lists in which no source stands twice: what a weight over them can sum to, and how many entries they can have.
 use mathlib.Core.Path.{◌≡◌, refl, sym, ap, ◌∙◌}
-use mathlib.Core.Bool.{Bool, true, false, cond, not, ◌&&◌, ◌||◌, and-eq-true_iff, and-false, or_true}
+use mathlib.Core.Bool.{Bool, true, false, cond, not, ◌&&◌, ◌||◌, and-eq-true_iff, and-false, or-true}
 use mathlib.Core.List.{List, [], ◌∷◌}
 use mathlib.Core.Logic.{inl, inr}
 use Prim.Native.Nat.{ℕ, zero, suc, ◌+◌, ◌≤◌, ◌<◌}
@@ -108,7 +108,7 @@ stands : (c : ℕ) (list : List ℕ) (i : ℕ) → i < length list → c ≡ at 
 unfolding among
 stands c [] i h e = absurd (omega arith)
 stands c (d ∷ list) zero h e = rw (eq-eqb c d e)
-stands c (d ∷ list) (suc i) h e = rw (stands c list i (omega arith) e) (or_true (eqb c d))
+stands c (d ∷ list) (suc i) h e = rw (stands c list i (omega arith) e) (or-true (eqb c d))
 
 repeats : (list : List ℕ) → all_differ list ≡ false → Repeat list
 unfolding all_differ

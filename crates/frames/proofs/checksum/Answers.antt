@@ -1,0 +1,13 @@
+-- `frames::checksum` meets its contract. The invariant: the sum so far and the sum of what is left are the whole sum, mod 64.
+use Rattle.std.proofs.Common.{arith}
+use Rattle.frames.specs.Checksum.{checksum_of}
+use Rattle.frames.proofs.Laws.{sum_step, sum_end}
+use Rattle.frames.proofs.checksum.Goals as goal
+
+pub loop-i-preserved : goal.loop-i-preserved
+unfolding checksum_of
+loop-i-preserved c = omega (arith, sum_step c.args.s.now c.loop-i.i (omega arith))
+
+pub returns : goal.returns
+unfolding checksum_of
+returns c = omega (arith, sum_end c.args.s.now c.loop-i.i (omega arith))

@@ -2,7 +2,6 @@
 use mathlib.Core.Path.{◌≡◌, refl}
 use mathlib.Core.List.{[], ◌∷◌}
 use Prim.Native.Nat.{ℕ}
-use borrow.Author.Rules.{rules}
 use types.Run.{OneOf, miss}
 use denote.Enum.Declared.{tag_of}
 use Rattle.decimal.specs.declared.Parsed.{Parsed}
@@ -10,8 +9,8 @@ use Rattle.decimal.specs.declared.Parsed.TheVariants.{Value, Syntax, Range}
 use Rattle.decimal.specs.contracts.Parsed.{the_type}
 use Rattle.readings.specs.declared.Benched.TheVariants.{Refused}
 use Rattle.readings.specs.Bench.{temperature_of}
-use Rattle.readings.proofs.temperature_of.Statement.{statement}
-use Rattle.readings.proofs.temperature_of.Tie as tie
+use borrow.Enum.Refused.{opened}
+use Rattle.readings.proofs.temperature_of.Goals as goal
 
 -- a number that was not read: its tag is not the first
 other : (code : ℕ) (p : Parsed) → OneOf (1 ∷ 2 ∷ []) (tag_of the_type p) → Refused ≡ temperature_of code p
@@ -20,13 +19,10 @@ other code (Value n) h = absurd (miss (1 ∷ 2 ∷ []) 0 tt h)
 other code Syntax h = refl
 other code Range h = refl
 
-pub temperature_of_spec : {M : Type 1} → statement M
+pub returns-in_default : goal.returns-in_default
 unfolding temperature_of
-temperature_of_spec =
-    tie.close
-    (tie.spec
-    (λ c. search rules)
-    (λ c. other c.before.args.code c.before.args.p c.match.keys2)
-    (λ c κs. search rules)
-    (λ c κs. search rules)
-    (λ c. rw (c.before.before.before.p.given.1, ← c.before.in-hundredths.ensures) c.degrees-of.ensures))
+returns-in_default c = other c.args.code c.args.p (opened c.in_default.in_default-own.keys2)
+
+pub returns : goal.returns
+unfolding temperature_of
+returns c = rw (c.in-Value.is, ← c.in_hundredths.ensures) c.degrees_of.ensures

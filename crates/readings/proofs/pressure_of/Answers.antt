@@ -2,7 +2,6 @@
 use mathlib.Core.Path.{◌≡◌, refl}
 use mathlib.Core.List.{[], ◌∷◌}
 use Prim.Native.Nat.{ℕ}
-use borrow.Author.Rules.{rules}
 use types.Run.{OneOf, miss}
 use denote.Enum.Declared.{tag_of}
 use Rattle.decimal.specs.declared.Parsed.{Parsed}
@@ -11,8 +10,8 @@ use Rattle.decimal.specs.contracts.Parsed.{the_type}
 use Rattle.readings.specs.declared.Benched.TheVariants.{Refused}
 use Rattle.buffer.proofs.Rules.{stop, past, unflag}
 use Rattle.readings.specs.Bench.{pressure_of}
-use Rattle.readings.proofs.pressure_of.Statement.{statement}
-use Rattle.readings.proofs.pressure_of.Tie as tie
+use borrow.Enum.Refused.{opened}
+use Rattle.readings.proofs.pressure_of.Goals as goal
 
 -- a number that was not read: its tag is not the first
 other : (code : ℕ) (p : Parsed) → OneOf (1 ∷ 2 ∷ []) (tag_of the_type p) → Refused ≡ pressure_of code p
@@ -21,14 +20,14 @@ other code (Value n) h = absurd (miss (1 ∷ 2 ∷ []) 0 tt h)
 other code Syntax h = refl
 other code Range h = refl
 
-pub pressure_of_spec : {M : Type 1} → statement M
+pub returns-in_default : goal.returns-in_default
 unfolding pressure_of
-pressure_of_spec =
-    tie.close
-    (tie.spec
-    (λ c. search rules)
-    (λ c. other c.before.args.code c.before.args.p c.match.keys2)
-    (λ c κs. search rules)
-    (λ c. rw c.before.before.before.p.given.1 (stop _ _ _ _ (unflag _ _ _ c.before.takes-number.ensures c.if1.true) refl))
-    (λ c κs. search rules)
-    (λ c. rw c.before.before.before.before.p.given.1 (past _ _ _ _ (unflag _ _ _ c.before.before.takes-number.ensures c.before.if1.false) c.pressure-at.ensures)))
+returns-in_default c = other c.args.code c.args.p (opened c.in_default.in_default-own.keys2)
+
+pub returns-then-not-takes_number : goal.returns-then-not-takes_number
+unfolding pressure_of
+returns-then-not-takes_number c = rw c.in-Value.is (stop _ _ _ _ (unflag _ _ _ c.takes_number.ensures c.if-not-takes_number.true) refl)
+
+pub returns : goal.returns
+unfolding pressure_of
+returns c = rw c.in-Value.is (past _ _ _ _ (unflag _ _ _ c.takes_number.ensures c.if-not-takes_number.false) c.pressure_at.ensures)

@@ -1,6 +1,6 @@
 /*
  * The C boundary of the proved gauges: the simulated text gauge (Thyracont V1 and V2) and the simulated OPG (INFICON OPG550), the readers and
- * writers of requests, and the OPG's CRC. `rt staticlib c_interface` writes the archive target/staticlib/libc_interface.a.
+ * writers of requests, and the OPG's CRC. `rt lib` in crates/c_interface writes the archive out/libc_interface.a there.
  *
  * Every slice is a pointer and the number of its elements (not of its bytes). Every function takes any lengths and any contents, allocates
  * nothing, keeps nothing between calls and always returns. The caller sees to this much: each pointer is aligned, not null and valid for so many

@@ -6,11 +6,11 @@ use std::process::{Command, Output, Stdio};
 
 /// The program of this name, or that it is not built.
 pub fn find(name: &str) -> Result<PathBuf, String> {
-    let path = PathBuf::from(format!("{}/../target/bin/{name}", env!("CARGO_MANIFEST_DIR")));
+    let path = PathBuf::from(format!("{}/../crates/{name}/out/{name}", env!("CARGO_MANIFEST_DIR")));
     if path.is_file() {
         return Ok(path);
     }
-    Err(format!("the program {name} is not built (rt check {name}): {}", path.display()))
+    Err(format!("the program {name} is not built (rt run in crates/{name}): {}", path.display()))
 }
 
 /// Runs a program with some words on some input: its status and all that it wrote.

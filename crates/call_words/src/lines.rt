@@ -1,10 +1,12 @@
 // The lines of the input.
 use script_words::word;
+use std::io;
+use std::io::Read;
 
 // The longest line, and the memory that holds one.
 const LINE_MAX: usize = 65536;
 
-// What a step meets: a part of a line, a line, the last line, the end of the input, or a read that failed.
+// What a step meets: a part of a line, a line, the last line, or the end of the input.
 const PART: u8 = 0;
 
 pub const LINE: u8 = 1;
@@ -12,8 +14,6 @@ pub const LINE: u8 = 1;
 pub const LAST: u8 = 2;
 
 const END: u8 = 3;
-
-pub const FAILED: u8 = 4;
 
 // Where the input stands: its bytes from i to n are still to be taken, and the line has `len` bytes, over LINE_MAX for one that is too long.
 #[derive(Clone, Copy)]
@@ -55,11 +55,8 @@ fn past(i: usize, k: usize) -> usize {
     i + k + 1
 }
 
-// What a read meets, where the line has `len` bytes so far. The input's end ends a line.
-fn met_by(got: isize, len: usize) -> u8 {
-    if got < 0 {
-        return FAILED;
-    }
+// What a read of so many bytes meets, where the line has `len` bytes so far. The input's end ends a line.
+fn met_by(got: usize, len: usize) -> u8 {
     if 0 < got {
         return PART;
     }
@@ -69,15 +66,15 @@ fn met_by(got: isize, len: usize) -> u8 {
     END
 }
 
-// Reads on.
-fn read_on(len: usize, input: &mut [u8]) -> Cursor {
-    let got = libc::read(libc::STDIN_FILENO, input);
-    Cursor {
+// Reads on, once.
+fn read_on(reader: &mut impl Read, len: usize, input: &mut [u8]) -> io::Result<Cursor> {
+    let got = reader.read(input)?;
+    Ok(Cursor {
         i: 0,
-        n: io::count(got, input),
+        n: got,
         len,
         met: met_by(got, len),
-    }
+    })
 }
 
 // How many bytes the line has before a step: none where the last step ended it.
@@ -88,20 +85,25 @@ fn kept(c: Cursor) -> usize {
     c.len
 }
 
-// Takes the line on, up to its LF or the end of what was read.
-pub fn step(c: Cursor, input: &mut [u8], line: &mut [u8]) -> Cursor {
+// Takes the line on, up to its LF or the end of what was read, and then reads on. A read that failed is the error.
+pub fn step(
+    reader: &mut impl Read,
+    c: Cursor,
+    input: &mut [u8],
+    line: &mut [u8],
+) -> io::Result<Cursor> {
     let rest = buffer::rest(word::front(input, c.n), c.i);
     let k = buffer::until(rest, b'\n');
     let len = add(line, kept(c), word::front(rest, k));
     if k < rest.len() {
-        return Cursor {
+        return Ok(Cursor {
             i: past(c.i, k),
             n: c.n,
             len,
             met: LINE,
-        };
+        });
     }
-    read_on(len, input)
+    read_on(reader, len, input)
 }
 
 // The line of n bytes, or an empty one where it is too long.

@@ -1,6 +1,8 @@
 // What a call prints: a value, and the line of it.
 use buffer::Text;
+use itoa::Buffer;
 use script_words::word;
+use std::io;
 
 // The byte that fills the answer memory before a call.
 pub const FILL: u8 = 0xa5;
@@ -55,9 +57,8 @@ pub fn unknown() -> Shown {
 }
 
 fn number_text(n: u64) -> Text {
-    let mut digits = [0u8; 20];
-    let k = io::decimal(n, &mut digits);
-    Text::EMPTY.add(&digits[..k])
+    let mut digits = Buffer::new();
+    Text::EMPTY.add(digits.format(n).as_bytes())
 }
 
 // A word and a number.
@@ -67,9 +68,11 @@ pub fn numbered(word: u8, n: u16) -> Shown {
 
 // A word and 32 bits in hex.
 pub fn bits(word: u8, w: u32) -> Shown {
-    let mut digits = [0u8; 16];
-    let n = io::hex(w as u64, 8, &mut digits);
-    said(word, Text::EMPTY.add(&digits[..n]))
+    let mut text = Text::EMPTY;
+    for b in w.to_be_bytes() {
+        text = text.push(digit(b / 16)).push(digit(b));
+    }
+    said(word, text)
 }
 
 // An answer: its number, its length and its bytes.
@@ -169,17 +172,17 @@ fn row_of(s: Shown) -> Row {
     put(put_word(empty, s.word), word::front(&bytes, n))
 }
 
-fn write_row(r: Row) -> bool {
+fn write_row(rt: &impl Print, r: Row) -> io::Result<()> {
     let n = r.len;
     let bytes = r.bytes;
-    io::write_all(libc::STDOUT_FILENO, word::front(&bytes, n))
+    rt.write_all(word::front(&bytes, n))
 }
 
-// Prints a line by one write, and answers whether it was written.
-pub fn line(s: Shown, memory: &[u8]) -> bool {
+// Prints a line by one write. A write that failed is the error.
+pub fn line(rt: &impl Print, s: Shown, memory: &[u8]) -> io::Result<()> {
     let r = row_of(s);
     if s.answer {
-        return write_row(push(put_memory(r, s.len, memory), b'\n'));
+        return write_row(rt, push(put_memory(r, s.len, memory), b'\n'));
     }
-    write_row(push(r, b'\n'))
+    write_row(rt, push(r, b'\n'))
 }

@@ -3,8 +3,16 @@
 // bench settings for the start, each SOURCE=VALUE, and profile=vsh or profile=vsm for a gauge of that profile.
 ghost use Rattle.std.specs.Prelude.{◌≤◌, length};
 
-use libc::{STDERR_FILENO, STDIN_FILENO, STDOUT_FILENO};
 use sources::Profile;
+use std::env::{Env, FillError};
+use std::io;
+use std::io::Read;
+
+// The most bytes of an argument that can be a setting.
+const WORD_MAX: usize = 256;
+
+// The size of the two buffers, of what is read at once and of its replies.
+const LARGE: usize = 65536;
 
 // ---- arguments
 
@@ -16,22 +24,23 @@ struct Started {
 }
 
 // The line that says what is wrong with an argument.
-fn complain(word: &[u8], why: &[u8]) {
-    io::write_all(STDERR_FILENO, b"gauge: argument '");
-    io::write_all(STDERR_FILENO, word);
-    io::write_all(STDERR_FILENO, why);
+fn complain(err: &impl Print, word: &[u8], why: &[u8]) {
+    let _ = err.write_all(b"gauge: argument '");
+    let _ = err.write_all(word);
+    let _ = err.write_all(why);
 }
 
-fn refused(g: gauge_rules::Gauge, word: &[u8], why: &[u8]) -> Started {
-    complain(word, why);
+fn refused(err: &impl Print, g: gauge_rules::Gauge, word: &[u8], why: &[u8]) -> Started {
+    complain(err, word, why);
     Started {
         gauge: g,
         ok: false,
     }
 }
 
-fn malformed(g: gauge_rules::Gauge, word: &[u8]) -> Started {
+fn malformed(err: &impl Print, g: gauge_rules::Gauge, word: &[u8]) -> Started {
     refused(
+        err,
         g,
         word,
         b"' is not SOURCE=VALUE: a source is 0, 1, 2, 6, 7, T2, T6 or FS, a value a decimal, UR, OR or ERROR1\n",
@@ -39,10 +48,10 @@ fn malformed(g: gauge_rules::Gauge, word: &[u8]) -> Started {
 }
 
 // The gauge with one setting more.
-fn set(g: gauge_rules::Gauge, word: &[u8], b: readings::Bench) -> Started {
+fn set(err: &impl Print, g: gauge_rules::Gauge, word: &[u8], b: readings::Bench) -> Started {
     let a = text_gauge::set_bench(g, b);
     if a.number != 0 {
-        return refused(g, word, b"' is refused by the bench (15)\n");
+        return refused(err, g, word, b"' is refused by the bench (15)\n");
     }
     let gauge = a.gauge;
     Started { gauge, ok: true }
@@ -58,10 +67,11 @@ fn is_named(word: &[u8], profile: Profile) -> bool {
 }
 
 // The gauge, where a word names its profile.
-fn with_profile(g: gauge_rules::Gauge, word: &[u8]) -> Started {
+fn with_profile(err: &impl Print, g: gauge_rules::Gauge, word: &[u8]) -> Started {
     let profile = g.profile;
     if !is_named(word, profile) {
         return refused(
+            err,
             g,
             word,
             b"' names no profile, or a second one: profile=vsh or profile=vsm\n",
@@ -71,37 +81,35 @@ fn with_profile(g: gauge_rules::Gauge, word: &[u8]) -> Started {
 }
 
 // The gauge with the setting of one argument.
-fn with_word(g: gauge_rules::Gauge, word: &[u8]) -> Started {
+fn with_word(err: &impl Print, g: gauge_rules::Gauge, word: &[u8]) -> Started {
     let n = buffer::until(word, b'=');
     if word.len() <= n {
-        return malformed(g, word);
+        return malformed(err, g, word);
     }
     if buffer::is_same(&word[..n], b"profile") {
-        return with_profile(g, word);
+        return with_profile(err, g, word);
     }
     match bench_words::read_setting(&word[..n], buffer::rest(word, n + 1)) {
-        bench_words::Worded::Is(b) => set(g, word, b),
-        bench_words::Worded::Refused => malformed(g, word),
+        bench_words::Worded::Is(b) => set(err, g, word, b),
+        bench_words::Worded::Refused => malformed(err, g, word),
     }
 }
 
 // The gauge with the setting of argument i. One that is too long for any setting is named by its first bytes.
-fn with_argument(g: gauge_rules::Gauge, i: usize) -> Started {
-    let mut word = [0u8; 256];
-    let n = os::arg(i, &mut word);
-    if os::errno() != 0 {
-        return malformed(g, &word);
+fn with_argument(args: &impl Env, err: &impl Print, g: gauge_rules::Gauge, i: usize) -> Started {
+    let mut word = [0u8; WORD_MAX];
+    match args.arg(i, &mut word) {
+        Ok(n) => with_word(err, g, &word[..n]),
+        Err(_) => malformed(err, g, &word),
     }
-    with_word(g, &word[..n])
 }
 
 // The profile that argument i names, or the third.
-fn profile_at(i: usize) -> Profile {
-    let mut word = [0u8; 256];
-    let n = os::arg(i, &mut word);
-    if os::errno() != 0 {
+fn profile_at(args: &impl Env, i: usize) -> Profile {
+    let mut word = [0u8; WORD_MAX];
+    let Ok(n) = args.arg(i, &mut word) else {
         return Profile::Standard;
-    }
+    };
     if is_named(&word[..n], Profile::Vsh) {
         return Profile::Vsh;
     }
@@ -111,38 +119,59 @@ fn profile_at(i: usize) -> Profile {
     Profile::Standard
 }
 
+// How many arguments the program was started with, its own name among them.
+fn arg_count(args: &impl Env) -> usize {
+    let mut word = [0u8; WORD_MAX];
+    for i in 0..usize::MAX {
+        if let Err(FillError::NotPresent) = args.arg(i, &mut word) {
+            return i;
+        }
+    }
+    usize::MAX
+}
+
 // The profile that the arguments name first, or the third.
-fn chosen(count: usize) -> Profile {
-    let mut i: usize = 1;
-    while i < count {
-        match profile_at(i) {
+fn chosen(args: &impl Env, count: usize) -> Profile {
+    for i in 1..count {
+        match profile_at(args, i) {
             Profile::Standard => (),
             Profile::Vsh => return Profile::Vsh,
             Profile::Vsm => return Profile::Vsm,
         }
-        i += 1;
     }
     Profile::Standard
 }
 
 // The gauge at its start, with the profile and the settings of all arguments.
-fn start() -> Started {
-    let count = os::arg_count();
-    let mut g = gauge_rules::Gauge::at_start(chosen(count));
-    let mut i: usize = 1;
-    while i < count {
-        let s = with_argument(g, i);
+fn start(args: &impl Env, err: &impl Print) -> Started {
+    let count = arg_count(args);
+    let mut g = gauge_rules::Gauge::at_start(chosen(args, count));
+    for i in 1..count {
+        let s = with_argument(args, err, g, i);
         if !s.ok {
             return s;
         }
         let next = s.gauge;
         g = next;
-        i += 1;
     }
     Started { gauge: g, ok: true }
 }
 
 // ---- requests
+
+// The line that says which stream failed, and why: the system's words without its number.
+fn fail(rt: &(impl Eprint + AllocGlobal), stream: &str, e: io::Error) {
+    let _ = match format!(in rt.alloc(); "{e}") {
+        Ok(text) => {
+            let why = match text.as_str().split_once(" (os error ") {
+                Some((words, _)) => words,
+                None => text.as_str(),
+            };
+            rt.eprintln(format_args!("gauge: {stream}: {why}"))
+        }
+        Err(_) => rt.eprintln(format_args!("gauge: {stream}: {e}")),
+    };
+}
 
 // The gauge after what was read, and how many bytes of an unfinished request are kept; or nothing more can be read or written.
 #[derive(Clone, Copy)]
@@ -167,10 +196,10 @@ fn stop(g: gauge_rules::Gauge) -> Turn
 struct Answered {
     gauge: gauge_rules::Gauge,
     taken: usize,
-    ok: bool,
+    written: io::Result<()>,
 }
 
-fn answer_all(g: gauge_rules::Gauge, input: &[u8], out: &mut [u8]) -> Answered {
+fn answer_all(rt: &impl Print, g: gauge_rules::Gauge, input: &[u8], out: &mut [u8]) -> Answered {
     let mut h = g;
     let mut at: usize = 0;
     loop {
@@ -179,18 +208,19 @@ fn answer_all(g: gauge_rules::Gauge, input: &[u8], out: &mut [u8]) -> Answered {
         let taken = s.taken;
         let next = s.gauge;
         h = next;
-        if !io::write_all(STDOUT_FILENO, &out[..len]) {
+        let written = rt.write_all(&out[..len]);
+        if written.is_err() {
             return Answered {
                 gauge: h,
                 taken: at,
-                ok: false,
+                written,
             };
         }
         if taken == 0 {
             return Answered {
                 gauge: h,
                 taken: at,
-                ok: true,
+                written,
             };
         }
         at += taken;
@@ -198,31 +228,44 @@ fn answer_all(g: gauge_rules::Gauge, input: &[u8], out: &mut [u8]) -> Answered {
 }
 
 // Reads once, behind the bytes that are kept, and says where the bytes then end: where they ended before, if the input ends here or fails.
-fn read_more(buf: &mut [u8], kept: usize) -> usize
+fn read_more<R: Eprint + Input + AllocGlobal>(
+    rt: &R,
+    reader: &mut R::Reader,
+    buf: &mut [u8],
+    kept: usize,
+) -> usize
     requires { kept ≤ length buf.old }
     ensures { (kept ≤ result) × (result ≤ length buf.new) }
 {
-    let got = libc::read(STDIN_FILENO, &mut buf[kept..]);
-    if got < 0 {
-        os::fail(b"gauge: standard input");
-        return kept;
+    match reader.read(&mut buf[kept..]) {
+        Ok(got) => kept + got,
+        Err(e) => {
+            fail(rt, "standard input", e);
+            kept
+        }
     }
-    kept + io::count(got, buffer::rest(buf, kept))
 }
 
 // Answers what can be read at once, and keeps the unfinished end.
-fn serve_once(g: gauge_rules::Gauge, buf: &mut [u8], kept: usize, out: &mut [u8]) -> Turn
+fn serve_once<R: Print + Eprint + Input + AllocGlobal>(
+    rt: &R,
+    reader: &mut R::Reader,
+    g: gauge_rules::Gauge,
+    buf: &mut [u8],
+    kept: usize,
+    out: &mut [u8],
+) -> Turn
     requires { kept ≤ length buf.old }
     ensures { result.kept ≤ 110 }
 {
-    let end = read_more(buf, kept);
+    let end = read_more(rt, reader, buf, kept);
     if end == kept {
         return stop(g);
     }
-    let a = answer_all(g, &buf[..end], out);
+    let a = answer_all(rt, g, &buf[..end], out);
     let gauge = a.gauge;
-    if !a.ok {
-        os::fail(b"gauge: standard output");
+    if let Err(e) = a.written {
+        fail(rt, "standard output", e);
         return stop(gauge);
     }
     Turn {
@@ -232,32 +275,31 @@ fn serve_once(g: gauge_rules::Gauge, buf: &mut [u8], kept: usize, out: &mut [u8]
     }
 }
 
-// Reads to the end of the input. A proved loop has to end, so it counts its turns down from a number that no run uses up.
-fn run(g: gauge_rules::Gauge) {
-    let mut input = io::large_buffer();
-    let mut output = io::large_buffer();
+// Reads to the end of the input. A proved loop has to end, so it counts its turns, up to a number that no run reaches.
+fn run<R: Print + Eprint + Input + AllocGlobal>(rt: &R, g: gauge_rules::Gauge) {
+    let mut reader = rt.reader();
+    let mut input = [0u8; LARGE];
+    let mut output = [0u8; LARGE];
     let buf: &mut [u8] = &mut input;
     let out: &mut [u8] = &mut output;
     let mut h = g;
     let mut kept: usize = 0;
-    let mut turns = u64::MAX;
-    while 0 < turns {
-        let t = serve_once(h, buf, kept, out);
+    for _ in 0..u64::MAX {
+        let t = serve_once(rt, &mut reader, h, buf, kept, out);
         if !t.more {
             return;
         }
         let next = t.gauge;
         h = next;
         kept = t.kept;
-        turns -= 1;
     }
 }
 
-fn main() {
-    let s = start();
+fn main(rt: HostRuntime) {
+    let s = start(&rt, &rt.stderr());
     let ok = s.ok;
     let gauge = s.gauge;
     if ok {
-        run(gauge);
+        run(&rt, gauge);
     }
 }

@@ -5,6 +5,7 @@ use call_words::{call, print};
 use print::Shown;
 use script_words::word;
 use sources::Profile;
+use std::io;
 
 // The most bytes that HEX has in a line.
 const BYTES_MAX: usize = 32768;
@@ -30,7 +31,7 @@ struct Done {
 #[derive(Clone, Copy)]
 pub struct Played {
     pub world: World,
-    pub ok: bool,
+    pub written: io::Result<()>,
 }
 
 // Both gauges at their start, the text gauge of a profile.
@@ -164,7 +165,7 @@ fn perform(world: World, call: Call, line: &[u8], bytes: &[u8], memory: &mut [u8
 }
 
 // Plays a line, and prints what it says.
-pub fn run(world: World, line: &[u8]) -> Played {
+pub fn run(rt: &impl Print, world: World, line: &[u8]) -> Played {
     let mut hex = [0u8; BYTES_MAX];
     let mut memory = [print::FILL; LENT_MAX];
     let asks = call::read(line, &mut hex);
@@ -175,6 +176,6 @@ pub fn run(world: World, line: &[u8]) -> Played {
     let shown = done.shown;
     Played {
         world: after,
-        ok: print::line(shown, word::front(&memory, room)),
+        written: print::line(rt, shown, word::front(&memory, room)),
     }
 }

@@ -29,8 +29,12 @@
 // A failed read or write is named on standard error, and nothing more is played.
 use call_words::lines;
 use lines::Cursor;
+use std::io;
 
 mod calls;
+
+// The size of the two buffers, of what is read at once and of a line.
+const LARGE: usize = 65536;
 
 // The gauges and the input after a turn, and whether there is another.
 #[derive(Clone, Copy)]
@@ -41,57 +45,86 @@ struct Turn {
 }
 
 // Plays the line that has ended, or none.
-fn play_line(world: calls::World, met: u8, line: &[u8]) -> calls::Played {
+fn play_line(rt: &impl Print, world: calls::World, met: u8, line: &[u8]) -> calls::Played {
     match met {
-        lines::LINE => calls::run(world, line),
-        lines::LAST => calls::run(world, line),
-        _ => calls::Played { world, ok: true },
+        lines::LINE => calls::run(rt, world, line),
+        lines::LAST => calls::run(rt, world, line),
+        _ => calls::Played {
+            world,
+            written: Ok(()),
+        },
     }
 }
 
+// The line that says which stream failed, and why: the system's words without its number.
+fn fail(rt: &(impl Eprint + AllocGlobal), stream: &str, e: io::Error) {
+    let _ = match format!(in rt.alloc(); "{e}") {
+        Ok(text) => {
+            let why = match text.as_str().split_once(" (os error ") {
+                Some((words, _)) => words,
+                None => text.as_str(),
+            };
+            rt.eprintln(format_args!("replay: {stream}: {why}"))
+        }
+        Err(_) => rt.eprintln(format_args!("replay: {stream}: {e}")),
+    };
+}
+
 // Whether a line's answer was written, and the input goes on.
-fn goes_on(ok: bool, met: u8) -> bool {
-    if !ok {
-        os::fail(b"replay: standard output");
-        return false;
-    }
-    if met == lines::FAILED {
-        os::fail(b"replay: standard input");
+fn goes_on(rt: &(impl Eprint + AllocGlobal), written: io::Result<()>, met: u8) -> bool {
+    if let Err(e) = written {
+        fail(rt, "standard output", e);
         return false;
     }
     met < lines::LAST
 }
 
 // Takes the input on by a step, and plays the line that it ends.
-fn take_turn(world: calls::World, c: Cursor, input: &mut [u8], line: &mut [u8]) -> Turn {
-    let s = lines::step(c, input, line);
-    let played = play_line(world, s.met, lines::line_of(line, s.len));
+fn take_turn<R: Print + Eprint + Input + AllocGlobal>(
+    rt: &R,
+    reader: &mut R::Reader,
+    world: calls::World,
+    c: Cursor,
+    input: &mut [u8],
+    line: &mut [u8],
+) -> Turn {
+    let s = match lines::step(reader, c, input, line) {
+        Ok(s) => s,
+        Err(e) => {
+            fail(rt, "standard input", e);
+            return Turn {
+                world,
+                cursor: c,
+                more: false,
+            };
+        }
+    };
+    let played = play_line(rt, world, s.met, lines::line_of(line, s.len));
     let after = played.world;
     Turn {
         world: after,
         cursor: s,
-        more: goes_on(played.ok, s.met),
+        more: goes_on(rt, played.written, s.met),
     }
 }
 
-// Plays the whole input. A proved loop has to end, so it counts its turns down from a number that no run uses up.
-fn play(input: &mut [u8], line: &mut [u8]) {
+// Plays the whole input. A proved loop has to end, so it counts its turns, up to a number that no run reaches.
+fn play<R: Print + Eprint + Input + AllocGlobal>(rt: &R, input: &mut [u8], line: &mut [u8]) {
+    let mut reader = rt.reader();
     let mut world = calls::at_start(sources::Profile::Standard);
     let mut c = lines::START;
-    let mut turns = u64::MAX;
-    while 0 < turns {
-        let t = take_turn(world, c, input, line);
+    for _ in 0..u64::MAX {
+        let t = take_turn(rt, &mut reader, world, c, input, line);
         if !t.more {
             return;
         }
         world = t.world;
         c = t.cursor;
-        turns -= 1;
     }
 }
 
-fn main() {
-    let mut input = io::large_buffer();
-    let mut line = io::large_buffer();
-    play(&mut input, &mut line);
+fn main(rt: HostRuntime) {
+    let mut input = [0u8; LARGE];
+    let mut line = [0u8; LARGE];
+    play(&rt, &mut input, &mut line);
 }

@@ -46,6 +46,7 @@ impl Settings {
     };
 
     // The settings after an accepted request.
+    #[tactic(auto, unfolding(crate::specs::Settings::entered))]
     pub fn with(self, r: Request) -> Settings
         ensures { result ≡ entered self r }
     {
@@ -75,6 +76,7 @@ impl Settings {
 }
 
 // Whether a value of the request lies outside its limits.
+#[tactic(auto, unfolding(crate::specs::Request::outside_of))]
 pub fn is_outside(r: Request) -> bool
     ensures { result ≡ outside_of r }
 {
@@ -88,6 +90,7 @@ pub fn is_outside(r: Request) -> bool
 }
 
 // The PID of a request and of its reply.
+#[tactic(auto, unfolding(crate::specs::Request::request_pid))]
 pub fn request_pid(r: Request) -> u16
     ensures { result ≡ request_pid r }
 {
@@ -101,6 +104,7 @@ pub fn request_pid(r: Request) -> u16
 }
 
 // The CMD of the reply.
+#[tactic(auto, unfolding(crate::specs::Request::request_cmd))]
 pub fn reply_cmd(r: Request) -> u8
     ensures { result ≡ reply_cmd r }
 {
@@ -114,6 +118,7 @@ pub fn reply_cmd(r: Request) -> u8
 }
 
 // How many data bytes an accepted reply has.
+#[tactic(auto, unfolding(crate::specs::Request::reply_count))]
 pub fn reply_count(r: Request) -> usize
     ensures { result ≡ reply_count r }
 {

@@ -3,18 +3,21 @@
 ghost use Rattle.std.specs.Prelude.{◌≡◌};
 ghost use Rattle.opg_frames.specs.Frame.{len_of, cmd_of, pid_of, count_of, misshapen, foreign, wrong_crc, wrong_version, acknowledges, indexed};
 
+#[tactic(auto, unfolding(crate::specs::Frame::len_of))]
 fn len_of(s: &[u8]) -> u16
     ensures { result ≡ len_of s.now }
 {
     (buffer::byte_at(s, 3) as u16) * 256 + (buffer::byte_at(s, 4) as u16)
 }
 
+#[tactic(auto, unfolding(crate::specs::Frame::cmd_of))]
 pub fn cmd_of(s: &[u8]) -> u8
     ensures { result ≡ cmd_of s.now }
 {
     buffer::byte_at(s, 5)
 }
 
+#[tactic(auto, unfolding(crate::specs::Frame::pid_of))]
 pub fn pid_of(s: &[u8]) -> u16
     ensures { result ≡ pid_of s.now }
 {
@@ -22,6 +25,7 @@ pub fn pid_of(s: &[u8]) -> u16
 }
 
 // How many data bytes a frame has.
+#[tactic(auto, unfolding(crate::specs::Frame::count_of))]
 pub fn count_of(s: &[u8]) -> usize
     ensures { result ≡ count_of s.now }
 {
@@ -33,6 +37,7 @@ pub fn count_of(s: &[u8]) -> usize
 }
 
 // Whether the bytes are no frame: LEN, the number of bytes, or a reserved bit.
+#[tactic(auto, unfolding(crate::specs::Frame::misshapen, crate::specs::Frame::reserved_of))]
 pub fn is_misshapen(s: &[u8]) -> bool
     ensures { result ≡ misshapen s.now }
 {
@@ -47,6 +52,7 @@ pub fn is_misshapen(s: &[u8]) -> bool
 }
 
 // Whether ADDR is not 0, or ID is not the one given.
+#[tactic(auto, unfolding(crate::specs::Frame::foreign, crate::specs::Frame::address_of, crate::specs::Frame::id_of))]
 pub fn is_foreign(s: &[u8], id: u8) -> bool
     ensures { result ≡ foreign id s.now }
 {
@@ -56,6 +62,7 @@ pub fn is_foreign(s: &[u8], id: u8) -> bool
     buffer::byte_at(s, 1) != id
 }
 
+#[tactic(auto, unfolding(crate::specs::Frame::wrong_crc, crate::specs::Frame::crc_bytes))]
 pub fn has_wrong_crc(s: &[u8]) -> bool
     ensures { result ≡ wrong_crc s.now }
 {
@@ -68,12 +75,14 @@ pub fn has_wrong_crc(s: &[u8]) -> bool
     !buffer::is_same(buffer::rest(s, n - 2), &end)
 }
 
+#[tactic(auto, unfolding(crate::specs::Frame::wrong_version, crate::specs::Frame::version_of))]
 pub fn has_wrong_version(s: &[u8]) -> bool
     ensures { result ≡ wrong_version s.now }
 {
     buffer::byte_at(s, 2) / 16 != 2
 }
 
+#[tactic(auto, unfolding(crate::specs::Frame::acknowledges, crate::specs::Frame::acknowledge_of))]
 pub fn is_acknowledge(s: &[u8]) -> bool
     ensures { result ≡ acknowledges s.now }
 {
@@ -81,6 +90,7 @@ pub fn is_acknowledge(s: &[u8]) -> bool
 }
 
 // Whether IDX is not 0.
+#[tactic(auto, unfolding(crate::specs::Frame::indexed, crate::specs::Frame::idx_of))]
 pub fn is_indexed(s: &[u8]) -> bool
     ensures { result ≡ indexed s.now }
 {

@@ -4,6 +4,7 @@ ghost use Rattle.std.specs.Prelude.{◌≡◌};
 ghost use Rattle.opg_units.specs.Units.{finite, measurable, bits_in};
 
 // Whether 32 bits are those of a finite f32.
+#[tactic(auto, unfolding(crate::specs::Units::finite))]
 pub fn is_finite(w: u32) -> bool
     ensures { result ≡ finite w }
 {
@@ -11,6 +12,7 @@ pub fn is_finite(w: u32) -> bool
 }
 
 // Whether 32 bits are a pressure in mbar that the bench takes: finite, 0 to 2000, not negative zero.
+#[tactic(auto, unfolding(crate::specs::Units::measurable))]
 pub fn is_measurable(w: u32) -> bool
     ensures { result ≡ measurable w }
 {
@@ -25,6 +27,7 @@ pub fn is_measurable(w: u32) -> bool
 
 // A pressure in mbar as it is sent in a unit: 2 Torr, 3 Pascal, 4 micron, any other mbar. Each product rounds once; in mbar it is
 // the stored bits. Bits that are not finite are sent as they are.
+#[tactic(auto, unfolding(crate::specs::Units::bits_in, crate::specs::Units::product, buffer::specs::First::pick))]
 pub fn in_unit(unit: u8, w: u32) -> u32
     ensures { result ≡ bits_in unit w }
 {

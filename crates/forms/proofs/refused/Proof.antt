@@ -1,9 +1,0 @@
--- `forms::refused` meets its contract.
-use mathlib.Core.Path.{refl}
-use Rattle.sources.specs.Source.{list_of, Counted}
-use Rattle.forms.proofs.refused.Statement.{statement}
-use Rattle.forms.proofs.refused.Tie as tie
-
-pub refused_spec : {M : Type 1} → statement M
-unfolding list_of Counted
-refused_spec = tie.close (tie.spec (λ c. (refl, refl, refl)))

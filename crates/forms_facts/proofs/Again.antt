@@ -1,6 +1,6 @@
 -- Document 01, SM: "a read sends the text as accepted".
 use mathlib.Core.Path.{◌≡◌, refl}
-use mathlib.Core.Bool.{Bool, true, false, not, ◌&&◌, or_false}
+use mathlib.Core.Bool.{Bool, true, false, not, ◌&&◌, or-false}
 use mathlib.Core.List.{List, [], ◌∷◌}
 use Prim.Native.Nat.{ℕ, suc}
 use native.Mathlib.Omega.{arith}
@@ -53,7 +53,7 @@ sent limits (x ∷ s) on w = go on w.told w.busy w.mode (fits limits.source_code
     go : (on : Bool) → starts_with 52 (x ∷ s) ≡ on → idle_list (x ∷ s) ≡ false → known_mode (x ∷ s) ≡ true → Fits limits.source_codes s → stream_text on (entries_list limits.source_codes s) ≡ x ∷ s
     go true e i m f = cc (eqb-true x 52 e, entries_again limits.source_codes s f)
     go false e i m f =
-        let z : eqb x 48 ≡ true = rw (e, or_false) at m in
+        let z : eqb x 48 ≡ true = rw (e, or-false) at m in
         cc (alone x s (eqb x 48) i z, eqb-true x 48 z)
 
 -- "a read sends the text as accepted"

@@ -4,7 +4,6 @@ use mathlib.Core.Bool.{Bool, true, false}
 use mathlib.Core.List.{List, [], ◌∷◌}
 use Prim.Native.Nat.{ℕ}
 use lib.ListN.{drop}
-use Rattle.sources.specs.Source.{list_text}
 use Rattle.sources.specs.Entries.{source_texts, entries_of, entries_list}
 use Rattle.settings.specs.Limits.{ProfileLimits}
 use Rattle.settings.specs.Settings.{key_of}

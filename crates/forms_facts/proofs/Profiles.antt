@@ -1,7 +1,6 @@
 -- The limits of each profile: proper ones. This is all that is proved profile by profile.
-use mathlib.Core.Path.{◌≡◌, refl}
+use mathlib.Core.Path.{refl}
 use mathlib.Core.Logic.{inr}
-use Prim.Native.Nat.{◌≤◌}
 use native.Mathlib.Omega.{arith}
 use Rattle.decimal.specs.Exact.{units}
 use Rattle.decimal.specs.Number.{plus, minus, below_of}

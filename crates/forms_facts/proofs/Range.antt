@@ -1,6 +1,6 @@
 -- SM: where it is refused with 11.
 use mathlib.Core.Path.{◌≡◌, refl, sym, ap, ◌∙◌}
-use mathlib.Core.Bool.{Bool, true, false, cond, not, ◌||◌, and-false, or_true, true≢false}
+use mathlib.Core.Bool.{Bool, true, false, cond, not, ◌||◌, and-false, or-true, true≢false}
 use mathlib.Core.List.{List, [], ◌∷◌, map}
 use mathlib.Core.Logic.{◌⊎◌, inl, inr}
 use Prim.Native.Nat.{ℕ, ◌+◌}
@@ -153,7 +153,7 @@ digit_first x t e = go (is_digit x) e
 other_mode : (x y : ℕ) (t : List ℕ) → (y ≡ 48) ⊎ (y ≡ 52) → known_mode (x ∷ t) ≡ false → x ≡ y → ⊥
 unfolding known_mode starts_with
 other_mode x y t (inl e) k h = true≢false (rw (eq-eqb x 48 (h ∙ e)) at k)
-other_mode x y t (inr e) k h = true≢false (rw (eq-eqb x 52 (h ∙ e), or_true) at k)
+other_mode x y t (inr e) k h = true≢false (rw (eq-eqb x 52 (h ∙ e), or-true) at k)
 
 not_0 : (limits : ProfileLimits) (x : ℕ) (t : List ℕ) → Eleven (x ∷ t) (entries_number limits.source_codes t) → x ≡ 48 → ⊥
 not_0 limits x t w h = go w.why

@@ -14,6 +14,7 @@ pub enum Asked {
     Accepted(Request),
 }
 
+#[tactic(auto, unfolding(crate::specs::Asked::wrong_shape))]
 fn has_wrong_shape(s: &[u8]) -> bool
     ensures { result ≡ wrong_shape s.now }
 {
@@ -23,6 +24,7 @@ fn has_wrong_shape(s: &[u8]) -> bool
     opg_frames::is_misshapen(s)
 }
 
+#[tactic(auto, unfolding(crate::specs::Asked::unknown_cmd))]
 fn has_unknown_cmd(s: &[u8]) -> bool
     ensures { result ≡ unknown_cmd s.now }
 {
@@ -36,6 +38,7 @@ fn has_unknown_cmd(s: &[u8]) -> bool
     true
 }
 
+#[tactic(auto, unfolding(crate::specs::Asked::unknown_pid))]
 fn has_unknown_pid(s: &[u8]) -> bool
     ensures { result ≡ unknown_pid s.now }
 {
@@ -52,6 +55,7 @@ fn has_unknown_pid(s: &[u8]) -> bool
     true
 }
 
+#[tactic(auto, unfolding(crate::specs::Asked::lacks_access))]
 fn has_no_access(s: &[u8]) -> bool
     ensures { result ≡ lacks_access s.now }
 {
@@ -67,6 +71,7 @@ fn has_no_access(s: &[u8]) -> bool
 }
 
 // How many data bytes the request has to have.
+#[tactic(auto, unfolding(crate::specs::Asked::needed_of, buffer::specs::First::pick))]
 fn needed(s: &[u8]) -> usize
     ensures { result ≡ needed_of s.now }
 {
@@ -84,6 +89,7 @@ fn needed(s: &[u8]) -> usize
     0
 }
 
+#[tactic(auto, unfolding(crate::specs::Asked::wrong_count))]
 fn has_wrong_count(s: &[u8]) -> bool
     ensures { result ≡ wrong_count s.now }
 {
@@ -103,6 +109,7 @@ fn spectra(s: &[u8]) -> u32
 }
 
 // What a request means that passed the tests up to its data length.
+#[tactic(auto, unfolding(crate::specs::Asked::meaning, buffer::specs::First::pick))]
 fn meaning_of(s: &[u8]) -> Request
     ensures { result ≡ meaning s.now }
 {
@@ -126,6 +133,7 @@ fn meaning_of(s: &[u8]) -> Request
     Request::DetectionOn(n, gas)
 }
 
+#[tactic(auto, unfolding(crate::specs::Asked::wrong_mode))]
 fn has_wrong_mode(s: &[u8]) -> bool
     ensures { result ≡ wrong_mode s.now }
 {
@@ -135,6 +143,7 @@ fn has_wrong_mode(s: &[u8]) -> bool
     !buffer::is_within(buffer::byte_at(s, 10), 0, Settings::MODE_MAX)
 }
 
+#[tactic(auto, unfolding(crate::specs::Asked::outside))]
 fn has_value_outside(s: &[u8]) -> bool
     ensures { result ≡ outside s.now }
 {
@@ -145,6 +154,7 @@ fn has_value_outside(s: &[u8]) -> bool
 }
 
 // Any bytes as a request, or the first refusal that applies.
+#[tactic(auto, unfolding(crate::specs::Asked::asked_of, buffer::specs::First::pick))]
 pub fn read_request(s: &[u8]) -> Asked
     ensures { result ≡ asked_of s.now }
 {

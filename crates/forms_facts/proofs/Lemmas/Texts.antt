@@ -1,6 +1,6 @@
 -- The texts of lists of sources.
 use mathlib.Core.Path.{◌≡◌, refl, sym, ap, ◌∙◌}
-use mathlib.Core.Bool.{Bool, true, false, not, ◌||◌, or_true, true≢false}
+use mathlib.Core.Bool.{Bool, true, false, not, ◌||◌, or-true, true≢false}
 use mathlib.Core.List.{List, [], ◌∷◌, ◌++◌, map}
 use Prim.Native.Nat.{ℕ, zero, suc, ◌<◌, ◌≤◌}
 use native.Mathlib.Omega.{arith}
@@ -48,7 +48,7 @@ texts_back (t ∷ ts) e =
 pub opens_texts : (ts : List (List ℕ)) → opens (entries_text ts) ≡ true
 unfolding opens entries_text
 opens_texts [] = refl
-opens_texts (t ∷ ts) = or_true (eqb (length (entries_text (t ∷ ts))) 0)
+opens_texts (t ∷ ts) = or-true (eqb (length (entries_text (t ∷ ts))) 0)
 
 -- the text of a list is of this form
 pub list_texts : (cs : List ℕ) → list_text cs ≡ entries_text (map source_text cs)

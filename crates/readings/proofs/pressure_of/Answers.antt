@@ -1,28 +1,24 @@
 -- `readings::pressure_of` meets its contract.
 use mathlib.Core.Path.{◌≡◌, refl}
-use mathlib.Core.List.{[], ◌∷◌}
 use Prim.Native.Nat.{ℕ}
-use types.Run.{OneOf, miss}
-use denote.Enum.Declared.{tag_of}
+use Rattle.decimal.specs.declared.Number.{Number}
 use Rattle.decimal.specs.declared.Parsed.{Parsed}
 use Rattle.decimal.specs.declared.Parsed.TheVariants.{Value, Syntax, Range}
-use Rattle.decimal.specs.contracts.Parsed.{the_type}
 use Rattle.readings.specs.declared.Benched.TheVariants.{Refused}
 use Rattle.buffer.proofs.Rules.{stop, past, unflag}
 use Rattle.readings.specs.Bench.{pressure_of}
-use borrow.Enum.Refused.{opened}
 use Rattle.readings.proofs.pressure_of.Goals as goal
 
--- a number that was not read: its tag is not the first
-other : (code : ℕ) (p : Parsed) → OneOf (1 ∷ 2 ∷ []) (tag_of the_type p) → Refused ≡ pressure_of code p
+-- a number that was not read
+other : (code : ℕ) (p : Parsed) → ((n : Number) → p ≡ Value n → ⊥) → Refused ≡ pressure_of code p
 unfolding pressure_of
-other code (Value n) h = absurd (miss (1 ∷ 2 ∷ []) 0 tt h)
+other code (Value n) h = absurd (h n refl)
 other code Syntax h = refl
 other code Range h = refl
 
 pub returns-in_default : goal.returns-in_default
 unfolding pressure_of
-returns-in_default c = other c.args.code c.args.p (opened c.in_default.in_default-own.keys2)
+returns-in_default c = other c.args.code c.args.p c.in_default.not-Value
 
 pub returns-then-not-takes_number : goal.returns-then-not-takes_number
 unfolding pressure_of

@@ -2,7 +2,6 @@
 use mathlib.Core.Path.{◌≡◌, ◌∙◌}
 use mathlib.Core.List.{List, [], ◌∷◌}
 use Prim.Native.Nat.{ℕ}
-use borrow.Author.Rules.{rules}
 use types.Run.{OneOf, miss}
 use denote.Enum.Declared.{tag_of}
 use Rattle.sources.specs.Source.{list_of, Counted}
@@ -12,8 +11,8 @@ use Rattle.requests.specs.declared.RequestV2.TheVariants.{Read, Restore, Set}
 use Rattle.requests.specs.contracts.RequestV2.{the_type}
 use Rattle.replies_v2.specs.ReplyV2.{done_reply, data_reply, data_list, DataReads}
 use Rattle.replies_v2_values.specs.declared.AnswerV2.{AnswerV2}
-use Rattle.replies_v2.proofs.read_data.Statement.{statement}
-use Rattle.replies_v2.proofs.read_data.Tie as tie
+use borrow.Enum.Refused.{opened}
+use Rattle.replies_v2.proofs.read_data.Goals as goal
 
 -- a request that is no read
 other : (limits : ProfileLimits) (q : RequestV2) (s : List ℕ) (a : AnswerV2) → OneOf (1 ∷ 2 ∷ []) (tag_of the_type q) → a.read ≡ done_reply s → list_of a.sources ≡ [] → Counted a.sources → DataReads limits q s a
@@ -22,14 +21,10 @@ other limits (Read c) s a h e l n = absurd (miss (1 ∷ 2 ∷ []) 0 tt h)
 other limits (Restore c) s a h e l n = record { read = e; list = l; count = n }
 other limits (Set x) s a h e l n = record { read = e; list = l; count = n }
 
-pub read_data_spec : {M : Type 1} → statement M
+pub returns-in_default : goal.returns-in_default
 unfolding data_reply data_list
-read_data_spec =
-    tie.close
-    (tie.spec
-    (λ c. search rules)
-    (λ c κs. search rules)
-    (λ c κs. search rules)
-    (λ c. other _ c.before.before.before.before.args.request c.before.before.before.before.args.s.now _ c.before.before.match.keys2 (c.plain.ensures.0 ∙ c.before.read_done.ensures) c.plain.ensures.1 c.plain.ensures.2)
-    (λ c κs. search rules)
-    (λ c. rw c.before.before.request.given.1 (record { read = c.read-value.ensures.read; list = c.read-value.ensures.list; count = c.read-value.ensures.count })))
+returns-in_default c = other _ c.args.request c.args.s.now _ (opened c.in_default.in_default-own.keys2) (c.plain.ensures.0 ∙ c.read_done.ensures) c.plain.ensures.1 c.plain.ensures.2
+
+pub returns : goal.returns
+unfolding data_reply data_list
+returns c = rw c.in-Read.is (record { read = c.read_value.ensures.read; list = c.read_value.ensures.list; count = c.read_value.ensures.count })

@@ -5,13 +5,11 @@ use Prim.Native.Nat.{ℕ, ◌+◌, ◌≤◌}
 use lib.Dec.{eqb}
 use native.Mathlib.Omega.{arith}
 use borrow.Author.Tests.{eq-eqb, ne_eqb}
-use borrow.Author.Rules.{rules}
 use Rattle.requests.specs.declared.RequestV2.{RequestV2}
 use Rattle.requests.specs.declared.RequestV2.TheVariants.{Read, Restore, Set}
 use Rattle.request_texts.specs.RequestText.{access_of}
 use Rattle.replies_v2.specs.ReplyV2.{other_access}
-use Rattle.replies_v2.proofs.is_other_access.Statement.{statement}
-use Rattle.replies_v2.proofs.is_other_access.Tie as tie
+use Rattle.replies_v2.proofs.is_other_access.Goals as goal
 
 access-le : (r : RequestV2) → access_of r ≤ 52
 unfolding access_of
@@ -28,11 +26,11 @@ other-access : (r : RequestV2) (a k : ℕ) → k ≡ access_of r → (a ≡ k + 
 unfolding other_access
 other-access r a k e h = rw (← e, ne_eqb a (k + 1) h)
 
-pub is_other_access_spec : {M : Type 1} → statement M
-is_other_access_spec =
-    tie.close
-    (tie.spec
-    (λ c κs. search rules)
-    (λ c. omega (arith, c.access-code.ensures, access-le c.before.args.request))
-    (λ c. same-access c.before.before.args.request c.before.before.args.access _ c.before.access-code.ensures c.if1.true)
-    (λ c. other-access c.before.before.args.request c.before.before.args.access _ c.before.access-code.ensures c.if1.false))
+pub overflow_add-access_code : goal.overflow_add-access_code
+overflow_add-access_code c = omega (arith, c.access_code.ensures, access-le c.args.request)
+
+pub returns-then-access-access_code : goal.returns-then-access-access_code
+returns-then-access-access_code c = same-access c.args.request c.args.access _ c.access_code.ensures c.if-access-access_code.true
+
+pub returns : goal.returns
+returns c = other-access c.args.request c.args.access _ c.access_code.ensures c.if-access-access_code.false

@@ -2,7 +2,6 @@
 use mathlib.Core.Path.{◌≡◌, ap, ◌∙◌}
 use mathlib.Core.List.{List, [], ◌∷◌}
 use Prim.Native.Nat.{ℕ}
-use borrow.Author.Rules.{rules}
 use types.Run.{OneOf, miss}
 use denote.Enum.Declared.{tag_of}
 use Rattle.sources.specs.Source.{list_of, Counted}
@@ -14,8 +13,8 @@ use Rattle.forms.specs.Judged.{verdict_of, list_in}
 use Rattle.requests.specs.declared.Command.TheVariants.{Of}
 use Rattle.replies_v2_values.specs.Value.{held_reply, transition_reply, setting_reply, value_reply, value_list, Values}
 use Rattle.replies_v2_values.specs.declared.AnswerV2.{AnswerV2}
-use Rattle.replies_v2_values.proofs.read_setting.Statement.{statement}
-use Rattle.replies_v2_values.proofs.read_setting.Tie as tie
+use borrow.Enum.Refused.{opened}
+use Rattle.replies_v2_values.proofs.read_setting.Goals as goal
 
 -- every setting but ST
 other : (limits : ProfileLimits) (key : Key) (s : List ℕ) (r : AnswerV2) → OneOf (0 ∷ 1 ∷ 2 ∷ 3 ∷ 4 ∷ 5 ∷ 7 ∷ []) (tag_of the_type key) → r.read ≡ held_reply (verdict_of limits key s)
@@ -30,16 +29,10 @@ other limits FC s r h a l n = record { read = a; list = l; count = n }
 other limits ST s r h a l n = absurd (miss (0 ∷ 1 ∷ 2 ∷ 3 ∷ 4 ∷ 5 ∷ 7 ∷ []) 6 tt h)
 other limits SM s r h a l n = record { read = a; list = l; count = n }
 
-pub read_setting_spec : {M : Type 1} → statement M
+pub returns-in_default : goal.returns-in_default
 unfolding setting_reply value_reply value_list list_in
-read_setting_spec =
-    tie.close
-    (tie.spec
-    (λ c. search rules)
-    (λ c κs. search rules)
-    (λ c κs. search rules)
-    (λ c. other _ c.before.before.before.before.before.args.key c.before.before.before.before.before.args.s.now _ c.before.before.before.match.keys2 (c.held_in.ensures ∙ ap held_reply c.before.before.judge.ensures.verdict) c.before.before.judge.ensures.list c.before.before.judge.ensures.count)
-    (λ c κs. search rules)
-    (λ c κs. search rules)
-    (λ c κs. search rules)
-    (λ c. rw c.before.before.before.enum_told.given.1 (record { read = c.plain.ensures.0 ∙ c.before.transition-in.ensures ∙ ap transition_reply c.before.before.read-ends.ensures; list = c.plain.ensures.1; count = c.plain.ensures.2 })))
+returns-in_default c = other _ c.args.key c.args.s.now _ (opened c.in_default.in_default-own.keys2) (c.held_in.ensures ∙ ap held_reply c.judge-judged.ensures.verdict) c.judge-judged.ensures.list c.judge-judged.ensures.count
+
+pub returns : goal.returns
+unfolding setting_reply value_reply value_list list_in
+returns c = rw c.in-ST.is (record { read = c.plain.ensures.0 ∙ c.transition_in.ensures ∙ ap transition_reply c.read_ends.ensures; list = c.plain.ensures.1; count = c.plain.ensures.2 })

@@ -16,6 +16,7 @@ pub struct Answered {
     pub written: buffer::Written,
 }
 
+#[tactic(auto, unfolding(crate::specs::Reply::bits_of))]
 fn bits(p: Pressure) -> u32
     ensures { result ≡ bits_of p }
 {
@@ -26,6 +27,7 @@ fn bits(p: Pressure) -> u32
 }
 
 // Writes the error reply to a request with this CMD byte.
+#[tactic(auto, unfolding(crate::specs::Inner::sent_error, crate::specs::Reply::error_cmd, buffer::specs::First::pick))]
 fn send_error(out: &mut [u8], cmd: u8, e: u8) -> buffer::Written
     ensures { Sent out.old (sent_error (length out.old) cmd e) out.new result }
 {
@@ -37,6 +39,7 @@ fn send_error(out: &mut [u8], cmd: u8, e: u8) -> buffer::Written
 }
 
 // The unit of a pressure's read: 0 is the master unit.
+#[tactic(auto, unfolding(crate::specs::Reply::unit_of, buffer::specs::First::pick))]
 fn unit_for(g: Gauge, u: u8) -> u8
     ensures { result ≡ unit_of g u }
 {
@@ -47,6 +50,7 @@ fn unit_for(g: Gauge, u: u8) -> u8
 }
 
 // The data of an accepted reply, filled up with zeros.
+#[tactic(auto, unfolding(crate::specs::Inner::reply_bytes, crate::specs::Reply::reply_data))]
 fn reply_bytes(g: Gauge, r: Request) -> [u8; 4]
     ensures { result ≡ reply_bytes g r }
 {
@@ -68,6 +72,7 @@ fn reply_bytes(g: Gauge, r: Request) -> [u8; 4]
     }
 }
 
+#[tactic(auto, unfolding(crate::specs::Inner::sent_reply))]
 fn send_reply(out: &mut [u8], g: Gauge, r: Request) -> buffer::Written
     ensures { Sent out.old (sent_reply (length out.old) g r) out.new result }
 {
@@ -83,6 +88,7 @@ fn send_reply(out: &mut [u8], g: Gauge, r: Request) -> buffer::Written
 }
 
 // Writes the answer to a request with this CMD byte.
+#[tactic(auto, unfolding(crate::specs::Inner::replied))]
 fn reply(out: &mut [u8], g: Gauge, cmd: u8, a: Asked) -> buffer::Written
     ensures { Sent out.old (replied (length out.old) g cmd a) out.new result }
 {
@@ -97,6 +103,7 @@ fn reply(out: &mut [u8], g: Gauge, cmd: u8, a: Asked) -> buffer::Written
 }
 
 // The answer to any bytes, whatever memory is lent.
+#[tactic(auto, unfolding(crate::specs::Reply::after_of))]
 pub fn answer(g: Gauge, s: &[u8], out: &mut [u8]) -> Answered
     ensures sent { Sent out.old (answer_of (length out.old) g s.now) out.new result.written }
     ensures gauge_value { result.gauge ≡ after_of (length out.old) g s.now }

@@ -30,6 +30,7 @@ pub struct BenchAnswer {
     pub number: u16,
 }
 
+#[tactic(auto, unfolding(crate::specs::State::is_unavailable))]
 fn is_unavailable(p: Pressure) -> bool
     ensures { result ≡ is_unavailable p }
 {
@@ -40,6 +41,7 @@ fn is_unavailable(p: Pressure) -> bool
 }
 
 // Whether the bench takes a pressure.
+#[tactic(auto, unfolding(crate::specs::State::takes))]
 fn is_taken(p: Pressure) -> bool
     ensures { result ≡ takes p }
 {
@@ -49,6 +51,7 @@ fn is_taken(p: Pressure) -> bool
     }
 }
 
+#[tactic(auto, unfolding(crate::specs::Judged::is_pressure_read))]
 fn is_pressure_read(r: Request) -> bool
     ensures { result ≡ is_pressure_read r }
 {
@@ -73,6 +76,7 @@ impl Gauge {
     }
 
     // The bench, document 01's term for what sets the readings from outside, sets the pressure.
+    #[tactic(auto, unfolding(crate::specs::State::benched, buffer::specs::First::pick))]
     pub fn bench(self, p: Pressure) -> BenchAnswer
         ensures { result ≡ benched self p }
     {
@@ -93,6 +97,7 @@ impl Gauge {
     }
 
     // A request that was read, held against the pressure.
+    #[tactic(auto, unfolding(crate::specs::Inner::judged, crate::specs::Judged::unavailable, buffer::specs::First::pick))]
     fn held(self, a: Asked) -> Asked
         ensures { result ≡ judged self a }
     {
@@ -110,6 +115,7 @@ impl Gauge {
     }
 
     // What any bytes ask of the gauge, where `room` bytes are lent for the reply.
+    #[tactic(auto, unfolding(crate::specs::Judged::judgement, crate::specs::Inner::judged, opg_request_reader::specs::Asked::asked_of, buffer::specs::First::pick))]
     pub fn judge(self, room: usize, s: &[u8]) -> Asked
         ensures { result ≡ judgement room self s.now }
     {
@@ -120,6 +126,7 @@ impl Gauge {
     }
 
     // The gauge after a request.
+    #[tactic(auto, unfolding(crate::specs::Judged::after))]
     pub fn entered(self, a: Asked) -> Gauge
         ensures { result ≡ after self a }
     {

@@ -22,6 +22,7 @@ pub enum ReadOpg {
     Read(Reply),
 }
 
+#[tactic(auto, unfolding(crate::specs::Reply::is_error))]
 fn is_error(s: &[u8]) -> bool
     ensures { result ≡ is_error s.now }
 {
@@ -29,6 +30,7 @@ fn is_error(s: &[u8]) -> bool
 }
 
 // Whether CMD, IDX or PID are not those of a reply to the request.
+#[tactic(auto, unfolding(crate::specs::Reply::other_reply))]
 fn is_other_reply(r: Request, s: &[u8]) -> bool
     ensures { result ≡ other_reply r s.now }
 {
@@ -45,6 +47,7 @@ fn is_other_reply(r: Request, s: &[u8]) -> bool
 }
 
 // How many data bytes the reply has to have.
+#[tactic(auto, unfolding(crate::specs::Reply::needed_of, buffer::specs::First::pick))]
 fn needed(r: Request, s: &[u8]) -> usize
     ensures { result ≡ needed_of r s.now }
 {
@@ -54,6 +57,7 @@ fn needed(r: Request, s: &[u8]) -> usize
     opg_commands::reply_count(r)
 }
 
+#[tactic(auto, unfolding(crate::specs::Reply::wrong_count))]
 fn has_wrong_count(r: Request, s: &[u8]) -> bool
     ensures { result ≡ wrong_count r s.now }
 {
@@ -73,6 +77,7 @@ fn word(s: &[u8]) -> u32
 }
 
 // The value that answers a request.
+#[tactic(auto, unfolding(crate::specs::Reply::reply_value, buffer::specs::First::pick))]
 fn read_value(r: Request, s: &[u8]) -> ReadOpg
     ensures { result ≡ reply_value r s.now }
 {
@@ -98,6 +103,7 @@ fn read_value(r: Request, s: &[u8]) -> ReadOpg
 }
 
 // Any bytes as the reply to a request, or the first refusal that applies.
+#[tactic(auto, unfolding(crate::specs::Reply::read_of, buffer::specs::First::pick))]
 pub fn read_reply(r: Request, s: &[u8]) -> ReadOpg
     ensures { result ≡ read_of r s.now }
 {

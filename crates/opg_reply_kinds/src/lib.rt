@@ -20,6 +20,7 @@ pub enum UnitRead {
 }
 
 // Why a reply that is not of the expected kind has no value: an error has its own number.
+#[tactic(auto, unfolding(crate::specs::Kind::no_value, opg_replies::specs::Reply::read_shown, buffer::specs::First::pick))]
 fn no_value(reply: Reply) -> u16
     ensures { result ≡ no_value reply }
 {
@@ -29,6 +30,7 @@ fn no_value(reply: Reply) -> u16
     1000 + e as u16
 }
 
+#[tactic(auto, unfolding(crate::specs::Kind::as_measured, crate::specs::Kind::expected, opg_replies::specs::Reply::read_shown, buffer::specs::First::pick))]
 pub fn pressure_of(reply: Reply) -> Measured
     ensures { as_measured result ≡ expected 1 reply }
 {
@@ -38,6 +40,7 @@ pub fn pressure_of(reply: Reply) -> Measured
     Measured::Value(p)
 }
 
+#[tactic(auto, unfolding(crate::specs::Kind::as_unit, crate::specs::Kind::expected, opg_replies::specs::Reply::read_shown, buffer::specs::First::pick))]
 pub fn unit_of(reply: Reply) -> UnitRead
     ensures { as_unit result ≡ expected 2 reply }
 {

@@ -8,6 +8,7 @@ ghost use Rattle.opg_request_writer.specs.Inner.{request_count, request_bytes};
 
 use opg_commands::Request;
 
+#[tactic(auto, unfolding(opg_commands::specs::Request::request_cmd))]
 fn request_cmd(r: Request) -> u8
     ensures { result ≡ request_cmd r }
 {
@@ -20,6 +21,7 @@ fn request_cmd(r: Request) -> u8
     }
 }
 
+#[tactic(auto, unfolding(crate::specs::Inner::request_count))]
 fn request_count(r: Request) -> usize
     ensures { result ≡ request_count r }
 {
@@ -33,6 +35,7 @@ fn request_count(r: Request) -> usize
 }
 
 // The data of a request, filled up with zeros.
+#[tactic(auto, unfolding(crate::specs::Inner::request_bytes, opg_commands::specs::Request::request_data))]
 fn request_bytes(r: Request) -> [u8; 6]
     ensures { result ≡ request_bytes r }
 {

@@ -56,14 +56,19 @@ fn play_line(rt: &impl Print, world: calls::World, met: u8, line: &[u8]) -> call
     }
 }
 
-// The line that says which stream failed, and why: the system's words without its number.
+// An error's words without the system's number.
+fn without_number(text: &str) -> &str {
+    match text.split_once(" (os error ") {
+        Some((words, _)) => words,
+        None => text,
+    }
+}
+
+// The line that says which stream failed, and why.
 fn fail(rt: &(impl Eprint + AllocGlobal), stream: &str, e: io::Error) {
     let _ = match format!(in rt.alloc(); "{e}") {
         Ok(text) => {
-            let why = match text.as_str().split_once(" (os error ") {
-                Some((words, _)) => words,
-                None => text.as_str(),
-            };
+            let why = without_number(text.as_str());
             rt.eprintln(format_args!("replay: {stream}: {why}"))
         }
         Err(_) => rt.eprintln(format_args!("replay: {stream}: {e}")),

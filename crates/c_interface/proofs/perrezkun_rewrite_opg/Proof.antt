@@ -1,7 +1,0 @@
--- `c_interface::perrezkun_rewrite_opg` meets its contract.
-use borrow.Author.Rules.{rules}
-use Rattle.c_interface.proofs.perrezkun_rewrite_opg.Statement.{statement}
-use Rattle.c_interface.proofs.perrezkun_rewrite_opg.Tie as tie
-
-pub perrezkun_rewrite_opg_spec : {M : Type 1} → statement M
-perrezkun_rewrite_opg_spec = tie.close (tie.spec (λ c κs. search rules) (λ c. search rules) (λ c. c.before.before.rewrite-opg.ensures))

@@ -3,9 +3,7 @@ use mathlib.Core.Path.{◌≡◌}
 use mathlib.Core.Bool.{false, not, true≢false}
 use lib.Dec.{T}
 use lib.Ieee.{Float, nan, inf, fin, is_nan, eq, ne}
-use borrow.Author.Rules.{rules}
-use Rattle.reply_words.proofs.show_bits.Statement.{statement}
-use Rattle.reply_words.proofs.show_bits.Tie as tie
+use Rattle.reply_words.proofs.show_bits.Goals as goal
 
 no_nan : (x : Float) → ne x x ≡ false → T (not (is_nan x))
 unfolding ne eq is_nan
@@ -13,5 +11,5 @@ no_nan nan e = absurd (true≢false e)
 no_nan (inf s) e = tt
 no_nan (fin s m k) e = tt
 
-pub show_bits_spec : {M : Type 1} → statement M
-show_bits_spec = tie.close (tie.spec (λ c κs. search rules) (λ c. search rules) (λ c. no_nan _ c.if1.false) (λ c κs. search rules) (λ c. search rules))
+pub float_to_bits-p : goal.float_to_bits-p
+float_to_bits-p c = no_nan c.args.p c.if-p.false

@@ -17,11 +17,11 @@ returns-in-C1 c = rw c.in-C1.is (record { verdict = c.plain-in-C1.ensures.0 ∙ 
 
 pub returns-in-CM : goal.returns-in-CM
 unfolding verdict_of list_in
-returns-in-CM c = rw c.in-CM.is (record { verdict = c.plain-in-CM.ensures.0 ∙ c.judge_control.ensures; list = c.plain-in-CM.ensures.1; count = c.plain-in-CM.ensures.2 })
+returns-in-CM c = rw c.in-CM.is (record { verdict = cc; list = c.plain-in-CM.ensures.1; count = c.plain-in-CM.ensures.2 })
 
 pub returns-in-CC : goal.returns-in-CC
 unfolding verdict_of list_in
-returns-in-CC c = rw c.in-CC.is (record { verdict = c.plain-in-CC.ensures.0 ∙ c.judge_cathode.ensures; list = c.plain-in-CC.ensures.1; count = c.plain-in-CC.ensures.2 })
+returns-in-CC c = rw c.in-CC.is (record { verdict = cc; list = c.plain-in-CC.ensures.1; count = c.plain-in-CC.ensures.2 })
 
 pub returns-in-FC : goal.returns-in-FC
 unfolding verdict_of list_in

@@ -18,7 +18,7 @@ use Rattle.requests.specs.declared.Command.{Command}
 use Rattle.requests.specs.declared.Command.TheVariants.{MV, T2, FN, FS, Of}
 use Rattle.requests.specs.declared.Named.{Named}
 use Rattle.requests.specs.declared.Named.TheVariants.{Known, Unknown}
-use Rattle.requests.specs.declared.RequestV2.TheVariants.{Read, Restore, Set}
+use Rattle.requests.specs.declared.RequestV2.TheVariants.{Read, Restore}
 use Rattle.requests.specs.declared.AskV2.{AskV2}
 use Rattle.requests.specs.declared.AskV2.TheVariants.{Asks, Refused}
 use Rattle.requests_facts.proofs.Data.{refused_data, none_with_write}

@@ -7,9 +7,7 @@ use Rattle.buffer.specs.Byte.{at}
 use Rattle.buffer.specs.Quoted.{bytes}
 use Rattle.sources.specs.declared.Profile.TheVariants.{Standard}
 use Rattle.settings.specs.Limits.{limits_of}
-use Rattle.readings.specs.Reading.{start, faulty_pressure}
 use Rattle.gauge_rules.specs.State.{State, unlocked_as, fresh}
-use Rattle.requests.specs.AskV1.{six_digits}
 use Rattle.gauge_table.specs.Asked.{unknown_letter, bad_form_v1, locked_write, outside_v1, measures_faulty}
 
 pub record Row : Type 0 where

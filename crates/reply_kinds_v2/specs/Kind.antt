@@ -1,5 +1,5 @@
 -- Document 01, "The master's side": the expected case of a decoded reply.
-use Rattle.std.specs.Prelude.{List, [], ◌∷◌, ℕ, eqb}
+use Rattle.std.specs.Prelude.{[], ◌∷◌, ℕ, eqb}
 use Rattle.buffer.specs.First.{◌⇒◌, first}
 use Rattle.buffer.specs.Byte.{at}
 use Rattle.replies_v2_values.specs.declared.ReplyV2.{ReplyV2}

@@ -1,0 +1,19 @@
+-- `reply_kinds_v1::factor_of` meets its contract.
+use mathlib.Core.Path.{sym, ap}
+use mathlib.Core.List.{[], ◌∷◌}
+use Rattle.buffer.specs.First.{pick}
+use Rattle.buffer.proofs.Rules.{past}
+use Rattle.replies_v1.specs.declared.ReadV1.TheVariants.{Refused}
+use Rattle.replies_v1.specs.ReplyV1.{read_shown_v1}
+use Rattle.reply_kinds_v1.specs.Kind.{as_factor, expected}
+use Rattle.reply_kinds_v1.proofs.Laws.{apart}
+use borrow.Enum.Refused.{opened}
+use Rattle.reply_kinds_v1.proofs.factor_of.Goals as goal
+
+pub returns-in_default : goal.returns-in_default
+unfolding as_factor expected read_shown_v1 pick
+returns-in_default c = past _ _ _ _ (apart (0 ∷ 1 ∷ 2 ∷ 4 ∷ 5 ∷ 6 ∷ []) 3 c.args.reply tt (opened c.in_default.in_default-own.keys2)) (ap Refused c.no_value.ensures)
+
+pub returns : goal.returns
+unfolding as_factor expected read_shown_v1 pick
+returns c = sym (ap (expected 4) c.in-Factor.is)

@@ -1,0 +1,18 @@
+-- `reply_kinds_v1::no_value` meets its contract.
+use mathlib.Core.Path.{refl, sym, ap}
+use mathlib.Core.List.{[], ◌∷◌}
+use Rattle.buffer.specs.First.{pick}
+use Rattle.buffer.proofs.Rules.{past}
+use Rattle.replies_v1.specs.ReplyV1.{read_shown_v1}
+use Rattle.reply_kinds_v1.specs.Kind.{no_value}
+use Rattle.reply_kinds_v1.proofs.Laws.{apart}
+use borrow.Enum.Refused.{opened}
+use Rattle.reply_kinds_v1.proofs.no_value.Goals as goal
+
+pub returns-in_default : goal.returns-in_default
+unfolding no_value read_shown_v1 pick
+returns-in_default c = past _ _ _ _ (apart (0 ∷ 1 ∷ 2 ∷ 3 ∷ 4 ∷ 5 ∷ []) 6 c.args.reply tt (opened c.in_default.in_default-own.keys2)) refl
+
+pub returns : goal.returns
+unfolding no_value read_shown_v1 pick
+returns c = sym (ap no_value c.in-Error.is)

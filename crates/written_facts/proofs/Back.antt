@@ -8,7 +8,7 @@ use borrow.Author.Tests.{eq-eqb, eqb-true, not-false}
 use lib.Dec.{eqb, ltb, leb}
 use lib.ListN.{length}
 use Rattle.buffer.specs.First.{pick}
-use Rattle.buffer.specs.Byte.{at, within}
+use Rattle.buffer.specs.Byte.{within}
 use Rattle.buffer.specs.Answer.{Answer, silent}
 use Rattle.buffer.proofs.Laws.{within_true}
 use Rattle.buffer.proofs.Rules.{each}

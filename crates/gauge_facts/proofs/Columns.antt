@@ -5,8 +5,8 @@ use mathlib.Core.Bool.{Bool, true, false, not, ◌&&◌}
 use mathlib.Core.List.{List, [], ◌∷◌}
 use Prim.Native.Nat.{ℕ}
 use lib.Dec.{eqb}
-use Rattle.buffer.specs.First.{first, pick}
-use Rattle.buffer.specs.Byte.{at, same_text}
+use Rattle.buffer.specs.First.{pick}
+use Rattle.buffer.specs.Byte.{same_text}
 use Rattle.buffer.specs.Quoted.{bytes}
 use Rattle.frames.specs.Frame.{data_from, head_v2}
 use Rattle.frames.specs.declared.HeadV2.{HeadV2}

@@ -2,7 +2,6 @@
 use mathlib.Core.Path.{◌≡◌, refl, sym, ap, subst}
 use mathlib.Core.Bool.{Bool, true, false, not}
 use mathlib.Core.Option.{Option, none, some}
-use mathlib.Core.Logic.{◌↔◌}
 use Prim.Native.Nat.{ℕ}
 use native.Mathlib.Omega.{arith}
 use Rattle.buffer.specs.First.{pick}
@@ -11,8 +10,6 @@ use Rattle.sources.specs.declared.Profile.TheVariants.{Standard, Vsh, Vsm}
 use Rattle.settings.specs.Limits.{ProfileLimits, limits_of}
 use Rattle.readings.specs.Bench.{bench_of}
 use Rattle.readings.specs.There.{names}
-use Rattle.readings.specs.declared.Bench.{Bench}
-use Rattle.readings.specs.declared.Reading.{Reading}
 use Rattle.readings.specs.declared.Benched.{Benched}
 use Rattle.readings.specs.declared.Benched.TheVariants.{Accepted, Refused}
 use Rattle.gauge_rules.specs.State.{State}

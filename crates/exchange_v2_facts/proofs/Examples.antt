@@ -15,7 +15,6 @@ use Rattle.requests.specs.AskV2.{ask_known, ask_named, ask_v2}
 use Rattle.requests.specs.declared.Command.TheVariants.{MV}
 use Rattle.requests.specs.declared.RequestV2.TheVariants as request
 use Rattle.request_texts.specs.RequestText.{access_of, command_in, head_for}
-use Rattle.replies_v2_values.specs.declared.ReadV2.TheVariants.{Read}
 use Rattle.gauge_rules.specs.State.{fresh}
 use Rattle.gauge_rules.specs.RulesV2.{changes_cathode, reads_faulty, grant_v2}
 use Rattle.gauge_facts.proofs.Kept.{fresh_sound}

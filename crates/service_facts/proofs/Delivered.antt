@@ -10,6 +10,7 @@ use lib.Seq.{take_all}
 use Rattle.buffer.proofs.Laws.{take_cut}
 use Rattle.gauge_rules.specs.State.{State}
 use Rattle.gauge_table.specs.Table.{answer_room}
+use Rattle.gauge_table.specs.After.{next_of}
 use Rattle.gauge_table.proofs.DecidedV2.{by}
 use Rattle.service.specs.Split.{Split, split, frames_of, unfinished_of}
 use Rattle.service.specs.Served.{most_kept}
@@ -23,12 +24,12 @@ use Rattle.service_facts.proofs.Cut.{split_cut, end_open, take_open, open_before
 pub state_append : (g : State) (a b : List (List ℕ)) → state_after g (a ++ b) ≡ state_after (state_after g a) b
 unfolding state_after
 state_append g [] b = refl
-state_append g (f ∷ a) b = state_append _ a b
+state_append g (f ∷ a) b = state_append (next_of g answer_room f) a b
 
 pub replies_append : (g : State) (a b : List (List ℕ)) → replies_to g (a ++ b) ≡ replies_to g a ++ replies_to (state_after g a) b
 unfolding replies_to state_after
 replies_append g [] b = refl
-replies_append g (f ∷ a) b = rw (replies_append _ a b, append_assoc)
+replies_append g (f ∷ a) b = rw (replies_append (next_of g answer_room f) a b, append_assoc)
 
 -- a long frame is as none
 long_state : (g : State) (f : List ℕ) (fs : List (List ℕ)) → 109 < length f → state_after g (f ∷ fs) ≡ state_after g fs

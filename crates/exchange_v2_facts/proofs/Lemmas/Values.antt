@@ -42,7 +42,6 @@ use Rattle.forms_facts.proofs.Lemmas.Texts.{none_number}
 use Rattle.gauge_rules.specs.RulesV2.{filament_of}
 use Rattle.replies_v2_values.specs.Value.{measured_reply, pressure_reply, degrees_reply, temperature_reply, filament_reply, status_reply, held_reply, both_ends, transition_reply, setting_reply}
 use Rattle.replies_v2_values.specs.declared.ReplyV2.TheVariants.{Measured, UnderRange, OverRange, Degrees, FilamentNumber, StatusNumber, Holds}
-use Rattle.replies_v2_values.specs.declared.ReadV2.{ReadV2}
 use Rattle.replies_v2_values.specs.declared.ReadV2.TheVariants.{Read}
 use Rattle.settings.specs.Limits.{ProfileLimits, bench_limits}
 use Rattle.readings.specs.Reading.{under_text, over_text}

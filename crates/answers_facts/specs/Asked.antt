@@ -4,7 +4,6 @@ use Rattle.requests.specs.declared.AskV1.{AskV1}
 use Rattle.requests.specs.declared.AskV1.TheVariants as v1
 use Rattle.requests.specs.declared.AskV2.{AskV2}
 use Rattle.requests.specs.declared.AskV2.TheVariants as v2
-use Rattle.request_reader.specs.declared.Request.TheVariants.{Refused}
 use Rattle.gauge_rules.specs.State.{State}
 
 -- ---- what a frame asks

@@ -7,7 +7,6 @@ use Rattle.buffer.specs.Quoted.{bytes}
 use Rattle.frames.specs.Frame.{wrong_sum, wrong_address, wrong_length, head_v2, data_from}
 use Rattle.decimal.specs.Form.{number_of, parsed_number}
 use Rattle.decimal.specs.Number.{hundredths_of}
-use Rattle.error_texts.specs.declared.ErrorText.TheVariants as error
 use Rattle.decimal.specs.declared.Parsed.{Parsed}
 use Rattle.decimal.specs.declared.Parsed.TheVariants.{Value, Syntax, Range}
 use Rattle.decimal.specs.declared.Hundredths.{Hundredths}

@@ -1,7 +1,7 @@
 -- The claim holds of every sequence of calls from factory settings.
 use mathlib.Core.Path.{◌≡◌, refl, sym, ap, subst, ◌∙◌}
 use mathlib.Core.Bool.{Bool, true, false, cond, not, ◌&&◌}
-use mathlib.Core.List.{List}
+use mathlib.Core.List.{List, ◌∷◌}
 use mathlib.Core.Option.{none, some}
 use Prim.Native.Nat.{ℕ, ◌≤◌}
 use borrow.Author.Tests.{eq-eqb, eqb-true}
@@ -24,6 +24,7 @@ use Rattle.settings.specs.Settings.{held, factory}
 use Rattle.settings.specs.declared.Key.{Key}
 use Rattle.readings.specs.Bench.{bench_number}
 use Rattle.readings.specs.declared.Bench.{Bench}
+use Rattle.readings.specs.declared.Readings.{Readings}
 use Rattle.readings.specs.declared.Benched.{Benched}
 use Rattle.readings.specs.declared.Benched.TheVariants as bench
 use Rattle.readings.specs.Place.{Place, code_of, reading_at}
@@ -153,7 +154,11 @@ sofar {limits} ok (ask {h} {g} {s} {before} {after} {r} t a) =
       holds = a.state ∙ ap (λ (m : State). next_of m (length before) s) c.holds;
       limits_stay = ap (λ (m : State). m.limits) a.state ∙ profile_stays.0 (state_of g) (length before) s ∙ c.limits_stay;
       setting = λ key. follows (says_setting limits key) (holding key (factory limits)) e h _ _ (c.setting key) (ap (λ (m : State). holding key m.settings) a.state ∙ rw n (setting_next (state_of g) c.sound.proper (length before) s limits c.limits_stay key));
-      reading = λ p. rw (a.state, readings_stay (state_of g) (length before) s) (c.reading p);
+      reading = λ p.
+          subst
+          (λ (x : Readings). Stands p (latest (says_reading p) started (e ∷ h)) (reading_at p x))
+          (sym (ap (λ (m : State). m.readings) a.state ∙ readings_stay (state_of g) (length before) s))
+          (c.reading p);
       unlocked = follows says_unlock false e h _ _ c.unlocked (ap (λ (m : State). m.unlocked) a.state ∙ rw n (unlock_next (state_of g) c.sound.proper (length before) s));
       sound = rw a.state (next_sound (state_of g) (length before) s c.sound);
     }
@@ -165,7 +170,11 @@ sofar {limits} ok (set_bench {h} {g} {b} {r} t a) =
       holds = a.state ∙ ap (λ (m : State). benched m (bench_in m.limits b)) c.holds;
       limits_stay = ap (λ (m : State). m.limits) a.state ∙ profile_stays.1 (state_of g) b ∙ c.limits_stay;
       setting = λ key. follows (says_setting limits key) (holding key (factory limits)) e h _ _ (c.setting key) (ap (λ (m : State). holding key m.settings) a.state ∙ ap (holding key) (settings_stay (state_of g) (bench_in (state_of g).limits b)) ∙ unsaid _);
-      reading = λ p. rw (a.state, a.number) (reading_set (state_of g) p (latest (says_reading p) started h) b (c.reading p));
+      reading = λ p.
+          subst
+          (λ (x : Readings). Stands p (latest (says_reading p) started (e ∷ h)) (reading_at p x))
+          (sym (ap (λ (m : State). m.readings) a.state))
+          (rw a.number (reading_set (state_of g) p (latest (says_reading p) started h) b (c.reading p)));
       unlocked = follows says_unlock false e h _ _ c.unlocked (ap (λ (m : State). m.unlocked) a.state ∙ unlock_stays (state_of g) (bench_in (state_of g).limits b) ∙ unsaid _);
       sound = rw a.state (bench_sound (state_of g) b c.sound);
     }

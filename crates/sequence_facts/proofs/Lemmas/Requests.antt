@@ -1,6 +1,6 @@
 -- What an accepted request enters is what its bytes write.
 use mathlib.Core.Path.{◌≡◌, refl, sym, ap, ◌∙◌}
-use mathlib.Core.Bool.{true, false, true≢false, or_false, and-eq-true_iff}
+use mathlib.Core.Bool.{true, false, true≢false, or-false, and-eq-true_iff}
 use mathlib.Core.List.{List, [], ◌∷◌}
 use mathlib.Core.Logic.{◌⊎◌, inl, inr}
 use mathlib.Core.Option.{none, some}
@@ -34,7 +34,7 @@ use Rattle.requests.specs.declared.Command.{Command}
 use Rattle.requests.specs.declared.Command.TheVariants.{MV, T2, FN, FS, Of}
 use Rattle.requests.specs.declared.Named.{Named}
 use Rattle.requests.specs.declared.Named.TheVariants.{Known, Unknown}
-use Rattle.requests.specs.declared.RequestV2.TheVariants.{Read, Restore, Set}
+use Rattle.requests.specs.declared.RequestV2.TheVariants.{Read, Restore}
 use Rattle.requests.specs.declared.RequestV1.{RequestV1}
 use Rattle.requests.specs.declared.RequestV1.TheVariants.{Measure, ReadFactor, Unlock, SetFactor, ReadUnit, SetUnit}
 use Rattle.requests.specs.declared.AskV2.{AskV2}
@@ -143,7 +143,7 @@ module _ (m : State) (ok : Proper m.limits) (key : Key) (h : Held) (s : List ℕ
   -- the third access code
   read_code_lem : is_access (at s 3) ≡ true → eqb (at s 3) 50 ≡ false → eqb (at s 3) 52 ≡ false → at s 3 ≡ 48
   unfolding is_access
-  read_code_lem a w r = eqb-true (at s 3) 48 (simp (w, r, or_false) at a)
+  read_code_lem a w r = eqb-true (at s 3) 48 (simp (w, r, or-false) at a)
 
   known : is_access (at s 3) ≡ true → (c : Command) → at s 4 ∷ at s 5 ∷ [] ≡ command_text c → Enters (ask_known m.limits (at s 3) c (data_from 8 s)) (named_list m.limits (at s 3) (Known c) (data_from 8 s))
   unfolding ask_known named_list pick

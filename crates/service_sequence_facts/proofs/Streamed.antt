@@ -22,7 +22,7 @@ use Rattle.service_facts.proofs.Room.{Front, front, join, behind, none_taken}
 use Rattle.service_facts.specs.Calls.{All}
 use Rattle.service_facts.proofs.Called.{over_front}
 use Rattle.history.specs.Latest.{Each}
-use Rattle.sequence_facts.specs.Sequence.{asked, bench_set, lined, History, Trace, Claim, OfProfile}
+use Rattle.sequence_facts.specs.Sequence.{asked, bench_set, lined, History, Trace, Claim}
 use Rattle.sequence_facts.proofs.Claimed.{claimed_of}
 use Rattle.service_sequence_facts.specs.Calls.{requests_of, replies_of, Lent}
 use Rattle.service_sequence_facts.specs.Run.{AnswersAll, last, call, Run, start, piece, stream_of, Same, none, whole, cut, Request, Streamed, AsWhole}
@@ -79,9 +79,9 @@ answering {input = input} t (last {before = before} m s e) =
       requests = (append-eq-nil_iff.0 (sym c.order ∙ no_frames)).0 ∙ sym no_frames;
       replies = sym c.replies;
     }
-answering {h = h} {input = input} t (call {before = before} m s rest) =
+answering {p = p} {h = h} {input = input} t (call {before = before} m s rest) =
     let c = serving t s in
-    let w = answering c.trace rest in
+    let w = answering {p = p} {h = (serving {p = p} t s).made ++ h} c.trace rest in
     let behind-is = ap (λ (n : ℕ). split (drop n input)) c.taken ∙ behind (requests_of c.made) c.left input c.order in
     record {
       made = w.made ++ c.made;

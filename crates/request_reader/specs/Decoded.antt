@@ -36,7 +36,7 @@ unfoldable pub from_v1 : ℕ → AskV1 → Request
 from_v1 address (v1.Asks r) = judged_v1 address r
 from_v1 address (v1.Refused k) = Refused k
 
--- what a frame asks of a gauge of these limits, by the gauge's own decoding (askV2, askV1)
+-- what a frame asks of a gauge of these limits, by the gauge's own decoding (`ask_v2`, `ask_v1`)
 unfoldable pub from_frame : ProfileLimits → List ℕ → Frame → Request
 from_frame limits s (frame.Silent k) = Refused k
 from_frame limits s (frame.V1 h) = from_v1 h.address (ask_v1 h.letter (data_from 4 s))

@@ -33,7 +33,7 @@ texts_known codes (t ∷ ts) e = go (source_of codes t) (source_named codes t) (
     go Unknown h f k = absurd (let z : ◌≡◌ {A = ℕ} 0 1 = cc in omega arith)
     go Malformed h f k = absurd (let z : ◌≡◌ {A = ℕ} 0 1 = cc in omega arith)
 
--- ---- a text cut and entriesText again
+-- ---- a text cut and `entries_text` again
 
 joined_onto : (x : ℕ) (ts : List (List ℕ)) (s : List ℕ) → entries_text ts ≡ 68 ∷ s → entries_text (onto x ts) ≡ 68 ∷ x ∷ s
 unfolding onto entries_text

@@ -37,7 +37,7 @@ returns-then-exponent-lt11 c =
     let six : six_digits c.args.d.now ≡ true = sym c.has_six_digits.ensures ∙ c.if-not-has_six_digits.false in
     let mantissa : numeral (take 4 c.args.d.now) ≡ c.numeral_of-mantissa.result = sym (numeral_part 4 c.args.d.now (omega arith)) ∙ sym c.numeral_of-mantissa.ensures in
     let exponent : numeral (drop 4 c.args.d.now) ≡ c.numeral_of-exponent.result = sym (two_whole c.args.d.now (six)) ∙ sym (rw c.rest.ensures at c.numeral_of-exponent.ensures) in
-    rw (six, mantissa, le-ltb _ 1000 c.if-mantissa-lt1000.false, exponent, within_below 11 30 _ c.if-exponent-lt11.true)
+    rw (six, mantissa, le-ltb c.numeral_of-mantissa.result 1000 (omega arith), exponent, within_below 11 30 _ c.if-exponent-lt11.true)
 
 pub returns-then-exponent-gt30 : goal.returns-then-exponent-gt30
 unfolding pressure_v1 pick
@@ -45,7 +45,7 @@ returns-then-exponent-gt30 c =
     let six : six_digits c.args.d.now ≡ true = sym c.has_six_digits.ensures ∙ c.if-not-has_six_digits.false in
     let mantissa : numeral (take 4 c.args.d.now) ≡ c.numeral_of-mantissa.result = sym (numeral_part 4 c.args.d.now (omega arith)) ∙ sym c.numeral_of-mantissa.ensures in
     let exponent : numeral (drop 4 c.args.d.now) ≡ c.numeral_of-exponent.result = sym (two_whole c.args.d.now (six)) ∙ sym (rw c.rest.ensures at c.numeral_of-exponent.ensures) in
-    rw (six, mantissa, le-ltb _ 1000 c.if-mantissa-lt1000.false, exponent, within_above 11 30 _ c.if-exponent-gt30.true)
+    rw (six, mantissa, le-ltb c.numeral_of-mantissa.result 1000 (omega arith), exponent, within_above 11 30 _ c.if-exponent-gt30.true)
 
 pub overflow_cast-result : goal.overflow_cast-result
 overflow_cast-result c =
@@ -58,4 +58,4 @@ returns c =
     let six : six_digits c.args.d.now ≡ true = sym c.has_six_digits.ensures ∙ c.if-not-has_six_digits.false in
     let mantissa : numeral (take 4 c.args.d.now) ≡ c.numeral_of-mantissa.result = sym (numeral_part 4 c.args.d.now (omega arith)) ∙ sym c.numeral_of-mantissa.ensures in
     let exponent : numeral (drop 4 c.args.d.now) ≡ c.numeral_of-exponent.result = sym (two_whole c.args.d.now (six)) ∙ sym (rw c.rest.ensures at c.numeral_of-exponent.ensures) in
-    rw (six, mantissa, le-ltb _ 1000 c.if-mantissa-lt1000.false, exponent, within_in 11 30 _ c.if-exponent-lt11.false c.if-exponent-gt30.false)
+    rw (six, mantissa, le-ltb c.numeral_of-mantissa.result 1000 (omega arith), exponent, within_in 11 30 c.numeral_of-exponent.result (omega arith) (omega arith))

@@ -1,5 +1,6 @@
 -- `replies_v2::read_body` meets its contract.
 use mathlib.Core.Path.{refl, ◌∙◌}
+use native.Mathlib.Omega.{arith}
 use borrow.Author.Tests.{eq-eqb, ne_eqb}
 use Rattle.buffer.proofs.Rules.{past, stop, flag}
 use Rattle.replies_v2.specs.ReplyV2.{error_reply, beside, body_reply}
@@ -17,4 +18,4 @@ returns-then-head-eq55 c = alone _ _ _ _ _ (error_reply c.args.s.now) (c.plain-t
 
 pub returns : goal.returns
 unfolding body_reply beside
-returns c = from_data _ _ _ _ _ c.read_data.ensures (past _ _ _ _ (flag _ _ _ c.is_mismatched.ensures c.if-is_mismatched.false) (past _ _ _ _ (ne_eqb _ 55 c.if-head-eq55.false) refl))
+returns c = from_data _ _ _ _ _ c.read_data.ensures (past _ _ _ _ (flag _ _ _ c.is_mismatched.ensures c.if-is_mismatched.false) (past _ _ _ _ (ne_eqb c.args.head.access 55 (λ e. omega arith)) refl))

@@ -6,6 +6,7 @@ use Prim.Native.Nat.{ℕ, zero, suc}
 use native.Mathlib.Omega.{arith}
 use borrow.Author.Tests.{le-leb, leb-true, ne_eqb}
 use lib.Dec.{eqb, leb}
+use Rattle.std.specs.Prelude.{Err, Ok, Result}
 use Rattle.buffer.specs.First.{◌⇒◌, first, pick}
 use Rattle.buffer.specs.Byte.{same_text, numeral}
 use Rattle.frames.specs.Frame.{data_from}
@@ -15,14 +16,14 @@ use Rattle.request_texts.specs.RequestText.{data_v1}
 use Rattle.replies_v1.specs.ReplyV1.{pressure_v1, measure_v1, factor_v1, unit_at, unit_v1, echo_v1, value_v1, read_v1, read_shown_v1}
 use Rattle.replies_v1.specs.declared.ReplyV1.{ReplyV1}
 use Rattle.replies_v1.specs.declared.ReplyV1.TheVariants.{Reads, UnderRange, OverRange, Factor, Unit, Done, Error}
-use Rattle.replies_v1.specs.declared.ReadV1.{ReadV1}
-use Rattle.replies_v1.specs.declared.ReadV1.TheVariants.{Read, Refused}
 use Rattle.answers_facts.specs.Rows.{Told}
 use Rattle.answers_facts.specs.ReadV1.{read_number, is_read, special, bad_data, outside}
 use Rattle.answers_facts.specs.Theorems.{ReplyNumberV1}
-use Rattle.answers_facts.proofs.Rows.{row, to}
+use Rattle.answers_facts.proofs.Rows.{row, to, not_0}
+use Rattle.refusals.specs.Number.{refusal_number}
+use Rattle.refusals.specs.declared.Refusal.{Refusal}
 
-abbrev Numbered : ReadV1 → ℕ → Type 0
+abbrev Numbered : Result ReplyV1 Refusal → ℕ → Type 0
 Numbered = Told read_number is_read 0
 
 -- six digits of a reading, and what stands for them
@@ -55,11 +56,11 @@ never : (b : Bool) → ◌≡◌ {A = ℕ} (pick b 10 0) (pick b 10 (pick false 
 unfolding pick
 never b = refl
 
-refused : (k : ℕ) → eqb k 0 ≡ false → Numbered (Refused k) k
+refused : (k : Refusal) → Numbered (Err k) (refusal_number k)
 unfolding read_number is_read read_shown_v1
-refused k e = record { number_is = refl; exactly = sym e }
+refused k = record { number_is = refl; exactly = sym (not_0 k) }
 
-read : (x : ReplyV1) → Numbered (Read x) 0
+read : (x : ReplyV1) → Numbered (Ok x) 0
 unfolding read_number is_read read_shown_v1
 read (Reads mantissa exponent) = record { number_is = refl; exactly = refl }
 read UnderRange = record { number_is = refl; exactly = refl }
@@ -71,14 +72,14 @@ read (Error e) = record { number_is = refl; exactly = refl }
 
 echo_is : (r : RequestV1) (d : List ℕ) → Numbered (echo_v1 r d) (pick (not (same_text d (data_v1 r))) 10 (pick false 11 0))
 unfolding echo_v1
-echo_is r d = to (never (not (same_text d (data_v1 r)))) (row _ (refused 10 refl) (read Done))
+echo_is r d = to (never (not (same_text d (data_v1 r)))) (row _ (refused Refusal.Syntax) (read Done))
 
 value_number : (r : RequestV1) (d : List ℕ) → Numbered (value_v1 r d) (first (bad_data r d ⇒ 10 ∷ outside r d ⇒ 11 ∷ []) 0)
 unfolding value_v1 bad_data outside special measure_v1 pressure_v1 factor_v1 unit_v1
 value_number Measure d =
-    to (told _ _ _ _ _ _) (row _ (read _) (row _ (read _) (row _ (read _) (row _ (refused 10 refl) (row _ (refused 10 refl) (row _ (refused 11 refl) (read _)))))))
-value_number ReadFactor d = row _ (refused 10 refl) (row _ (refused 11 refl) (read _))
-value_number ReadUnit d = row _ (refused 10 refl) (unit_is (numeral d))
+    to (told _ _ _ _ _ _) (row _ (read _) (row _ (read _) (row _ (read _) (row _ (refused Refusal.Syntax) (row _ (refused Refusal.Syntax) (row _ (refused Refusal.Range) (read _)))))))
+value_number ReadFactor d = row _ (refused Refusal.Syntax) (row _ (refused Refusal.Range) (read _))
+value_number ReadUnit d = row _ (refused Refusal.Syntax) (unit_is (numeral d))
 value_number Unlock d = echo_is Unlock d
 value_number (SetFactor n) d = echo_is (SetFactor n) d
 value_number (SetUnit u) d = echo_is (SetUnit u) d
@@ -87,5 +88,5 @@ value_number (SetUnit u) d = echo_is (SetUnit u) d
 pub reply_number : ReplyNumberV1
 unfolding read_v1
 reply_number address r s =
-    row _ (refused 2 refl) (row _ (refused 3 refl) (row _ (refused 4 refl) (row _ (refused 5 refl) (row _ (read _) (row _ (refused 14 refl)
+    row _ (refused Refusal.Shape) (row _ (refused Refusal.Checksum) (row _ (refused Refusal.Address) (row _ (refused Refusal.Other) (row _ (read _) (row _ (refused Refusal.Mismatch)
     (row _ (read _) (row _ (read _) (value_number r (data_from 4 s)))))))))

@@ -2,7 +2,13 @@
 use mathlib.Core.Path.{◌≡◌}
 use mathlib.Core.Bool.{Bool, true, false}
 use Prim.Native.Nat.{ℕ}
+use native.Mathlib.Omega.{arith}
+use borrow.Author.Tests.{ne_eqb}
+use lib.Dec.{eqb}
 use Rattle.buffer.specs.First.{pick}
+use Rattle.refusals.specs.Number.{refusal_number}
+use Rattle.refusals.specs.declared.Refusal.{Refusal}
+use Rattle.gauge_table.proofs.Numbers.{some_number}
 use Rattle.answers_facts.specs.Rows.{Told}
 
 -- what a row gives, and what the rows after it give
@@ -22,3 +28,7 @@ pub through : {A B : Type 0} {number : A → ℕ} {is_read : A → Bool} {done :
 unfolding pick
 through f true x y s t = s
 through f false x y s t = t
+
+-- a refusal's number is not 0
+pub not_0 : (k : Refusal) → eqb (refusal_number k) 0 ≡ false
+not_0 k = ne_eqb (refusal_number k) 0 (λ z. omega (arith, some_number k))

@@ -1,23 +1,21 @@
 -- Document 01, "The master's side": the number of the OPG reader's answer to any bytes, 22 to 28 in this order, and 20 for a reply that was
 -- read.
-use Rattle.std.specs.Prelude.{Bool, true, false, not, ◌&&◌, List, [], ◌∷◌, ℕ}
+use Rattle.std.specs.Prelude.{Bool, true, false, not, ◌&&◌, List, [], ◌∷◌, ℕ, Ok, Err}
 use Rattle.buffer.specs.First.{◌⇒◌, first}
 use Rattle.buffer.specs.Byte.{at, within, word_at}
 use Rattle.opg_frames.specs.Frame.{misshapen, foreign, wrong_crc, wrong_version, acknowledges, data_at}
 use Rattle.opg_units.specs.Units.{finite}
 use Rattle.opg_commands.specs.declared.Request.{Request}
 use Rattle.opg_commands.specs.declared.Request.TheVariants.{ReadPressure, ReadUnit, WriteUnit, DetectionOff, DetectionOn}
-use Rattle.opg_replies.specs.Reply.{is_error, other_reply, wrong_count, read_shown}
-use Rattle.opg_replies.specs.declared.ReadOpg.{ReadOpg}
-use Rattle.opg_replies.specs.declared.ReadOpg.TheVariants.{Refused, Read}
+use Rattle.opg_replies.specs.Reply.{ReadOpg, is_error, other_reply, wrong_count, read_shown}
 
 -- document 01's number for an answer, and whether a reply was read
 unfoldable pub read_number : ReadOpg → ℕ
 read_number x = at (read_shown x) 0
 
 unfoldable pub is_read : ReadOpg → Bool
-is_read (Read x) = true
-is_read (Refused k) = false
+is_read (Ok x) = true
+is_read (Err k) = false
 
 -- "28 a unit outside 1 to 4, or a pressure that is not finite"
 unfoldable pub bad_value : Request → List ℕ → Bool

@@ -1,6 +1,6 @@
 -- Document 01, "The master's side": the number of the V1 reader's answer to any bytes, "2 (V2 frames too), 3, 4, 5, 14 (another letter and not
 -- `NO_DEF`), 10, 11", and 0 for a reply that was read.
-use Rattle.std.specs.Prelude.{Bool, true, false, not, ◌&&◌, ◌||◌, List, [], ◌∷◌, ℕ, ltb, leb}
+use Rattle.std.specs.Prelude.{Bool, true, false, not, ◌&&◌, ◌||◌, List, [], ◌∷◌, ℕ, ltb, leb, Err, Ok, Result}
 use Rattle.buffer.specs.First.{◌⇒◌, first}
 use Rattle.buffer.specs.Byte.{at, within, same_text, numeral}
 use Rattle.buffer.specs.Quoted.{bytes}
@@ -11,17 +11,17 @@ use Rattle.requests.specs.AskV1.{six_digits}
 use Rattle.requests.specs.declared.RequestV1.{RequestV1}
 use Rattle.requests.specs.declared.RequestV1.TheVariants.{Measure, ReadFactor, Unlock, SetFactor, ReadUnit, SetUnit}
 use Rattle.request_texts.specs.RequestText.{data_v1}
+use Rattle.replies_v1.specs.declared.ReplyV1.{ReplyV1}
 use Rattle.replies_v1.specs.ReplyV1.{mantissa_in, exponent_in, not_v1, other_address, other_letter, error_at, read_shown_v1}
-use Rattle.replies_v1.specs.declared.ReadV1.{ReadV1}
-use Rattle.replies_v1.specs.declared.ReadV1.TheVariants.{Read, Refused}
+use Rattle.refusals.specs.declared.Refusal.{Refusal}
 
 -- document 01's number for an answer, and whether a reply was read
-unfoldable pub read_number : ReadV1 → ℕ
+unfoldable pub read_number : Result ReplyV1 Refusal → ℕ
 read_number x = at (read_shown_v1 x) 0
 
-unfoldable pub is_read : ReadV1 → Bool
-is_read (Read x) = true
-is_read (Refused k) = false
+unfoldable pub is_read : Result ReplyV1 Refusal → Bool
+is_read (Ok x) = true
+is_read (Err k) = false
 
 -- what `M` may send besides a number: the error `1`, `000000` and `999999`
 unfoldable pub special : List ℕ → Bool

@@ -1,16 +1,12 @@
 -- Document 01, "The master's side": the number of the V2 reader's answer to any bytes, "in the order 2 (V1 frames too), 3, 4, 5, 6, 14 ..,
 -- 10, 11 (by table and bench limits)", then 12 for SM's list (document 02), and 0 for a reply that was read.
-use Rattle.std.specs.Prelude.{Bool, true, false, cond, not, ◌&&◌, ◌||◌, List, [], ◌∷◌, ℕ, ◌-◌, eqb, ltb, length}
+use Rattle.std.specs.Prelude.{Bool, true, false, cond, not, ◌&&◌, ◌||◌, List, [], ◌∷◌, ℕ, ◌-◌, eqb, ltb, length, Err, None, Ok, Option, Result, Some}
 use Rattle.buffer.specs.First.{◌⇒◌, first}
 use Rattle.buffer.specs.Byte.{at, is_digit, same_text}
 use Rattle.buffer.specs.Quoted.{bytes}
 use Rattle.frames.specs.Frame.{wrong_sum, wrong_address, wrong_length, head_v2, data_from}
 use Rattle.decimal.specs.Form.{number_of, parsed_number}
 use Rattle.decimal.specs.Number.{hundredths_of}
-use Rattle.decimal.specs.declared.Parsed.{Parsed}
-use Rattle.decimal.specs.declared.Parsed.TheVariants.{Value, Syntax, Range}
-use Rattle.decimal.specs.declared.Hundredths.{Hundredths}
-use Rattle.decimal.specs.declared.Hundredths.TheVariants.{Whole, Other}
 use Rattle.readings.specs.Bench.{takes, outside_degrees}
 use Rattle.settings.specs.Limits.{ProfileLimits, bench_limits}
 use Rattle.forms.specs.Judged.{verdict_of, verdict_number}
@@ -20,18 +16,20 @@ use Rattle.requests.specs.declared.Command.{Command}
 use Rattle.requests.specs.declared.Command.TheVariants.{MV, T2, FN, FS, Of}
 use Rattle.requests.specs.declared.RequestV2.{RequestV2}
 use Rattle.requests.specs.declared.RequestV2.TheVariants as request
-use Rattle.replies_v2_values.specs.declared.ReadV2.{ReadV2}
-use Rattle.replies_v2_values.specs.declared.ReadV2.TheVariants.{Read, Refused}
+use Rattle.replies_v2_values.specs.declared.ReplyV2.{ReplyV2}
 use Rattle.replies_v2.specs.ReplyV2.{not_v2, error_code, mismatched, read_shown_v2}
 use Rattle.readings.specs.Reading.{under_text, over_text}
+use Rattle.decimal.specs.declared.Number.{Number}
+use Rattle.decimal.specs.declared.NumberError.{NumberError}
+use Rattle.refusals.specs.declared.Refusal.{Refusal}
 
 -- document 01's number for an answer, and whether a reply was read
-unfoldable pub read_number : ReadV2 → ℕ
+unfoldable pub read_number : Result ReplyV2 Refusal → ℕ
 read_number x = at (read_shown_v2 x) 0
 
-unfoldable pub is_read : ReadV2 → Bool
-is_read (Read x) = true
-is_read (Refused k) = false
+unfoldable pub is_read : Result ReplyV2 Refusal → Bool
+is_read (Ok x) = true
+is_read (Err k) = false
 
 -- ---- the data of a reply that does not refuse
 
@@ -52,19 +50,19 @@ bad_value limits (Of key) d = eqb (verdict_number (verdict_of limits key d)) 10
 
 -- 11: of the form, and outside. "0, 1, 2, 6 above zero"; "temperatures whole hundredths from -40.00 to 125.00"; FN `1`-`2`; FS `0`-`3`.
 -- (ST's F and T in any order are read: this reader has 12 for SM's list only.)
-unfoldable pub too_low : Parsed → Bool
-too_low (Value n) = not (takes 0 n)
-too_low Syntax = false
-too_low Range = true
+unfoldable pub too_low : Result Number NumberError → Bool
+too_low (Ok n) = not (takes 0 n)
+too_low (Err NumberError.Syntax) = false
+too_low (Err NumberError.Range) = true
 
-unfoldable pub beyond : Bool → Hundredths → Bool
-beyond negative (Whole h) = outside_degrees negative h
-beyond negative Other = true
+unfoldable pub beyond : Bool → Option ℕ → Bool
+beyond negative (Some h) = outside_degrees negative h
+beyond negative None = true
 
-unfoldable pub no_degrees : Parsed → Bool
-no_degrees (Value n) = beyond n.negative (hundredths_of n)
-no_degrees Syntax = false
-no_degrees Range = true
+unfoldable pub no_degrees : Result Number NumberError → Bool
+no_degrees (Ok n) = beyond n.negative (hundredths_of n)
+no_degrees (Err NumberError.Syntax) = false
+no_degrees (Err NumberError.Range) = true
 
 unfoldable pub outside : ProfileLimits → Command → List ℕ → Bool
 outside limits MV d = not (unmeasured d) && too_low (number_of d)

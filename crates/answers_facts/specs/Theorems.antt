@@ -1,12 +1,10 @@
 -- What is proved here, each statement as a type; proofs/ has the proofs.
-use Rattle.std.specs.Prelude.{◌≡◌, false, not, List, [], ◌∷◌, ℕ, eqb, ltb}
+use Rattle.std.specs.Prelude.{◌≡◌, false, not, List, [], ◌∷◌, ℕ, eqb, ltb, Option, Result}
 use Rattle.buffer.specs.First.{◌⇒◌, first, pick}
 use Rattle.frames.specs.Frame.{frame_of, frame_number}
 use Rattle.settings.specs.Limits.{ProfileLimits}
 use Rattle.requests.specs.declared.RequestV1.{RequestV1}
 use Rattle.requests.specs.declared.RequestV2.{RequestV2}
-use Rattle.requests.specs.declared.AskV1.{AskV1}
-use Rattle.requests.specs.declared.AskV2.{AskV2}
 use Rattle.request_reader.specs.Decoded.{request_of, request_number}
 use Rattle.replies_v1.specs.ReplyV1.{read_v1}
 use Rattle.replies_v2.specs.ReplyV2.{read_v2}
@@ -15,7 +13,6 @@ use Rattle.gauge_table.specs.Asked.{breaks_rule, asks_faulty}
 use Rattle.gauge_table.specs.Table.{answer_room, other_address, number_of}
 use Rattle.gauge_table.specs.Decided.{decided_v2, decided_v1}
 use Rattle.bench_words.specs.Words.{worded_of, worded_number}
-use Rattle.bench_words.specs.declared.Worded.{Worded}
 use Rattle.opg_commands.specs.declared.Request.{Request}
 use Rattle.opg_replies.specs.Reply.{read_of}
 use Rattle.answers_facts.specs.Rows.{Told}
@@ -25,6 +22,8 @@ use Rattle.answers_facts.specs.Words.{is_taken, IsSource}
 use Rattle.answers_facts.specs.ReadV2 as v2
 use Rattle.answers_facts.specs.ReadV1 as v1
 use Rattle.answers_facts.specs.ReadOpg as opg
+use Rattle.refusals.specs.declared.Refusal.{Refusal}
+use Rattle.readings.specs.declared.Bench.{Bench}
 
 -- ---- "Answer numbers of the text gauge"
 
@@ -34,11 +33,11 @@ FrameNumber = (s : List ℕ) → Told frame_number frames.is_frame 0 (frame_of s
 
 -- the number of what asks no request comes before the gauge's own: 12 of CC and CM, and 13
 abbrev pub DecidedV2 : Type 0
-DecidedV2 = (g : State) (x : AskV2) → decided_v2 g x ≡ first (not (eqb (ask_number_v2 x) 0) ⇒ ask_number_v2 x ∷ breaks_rule g x ⇒ 12 ∷ asks_faulty g x ⇒ 13 ∷ []) 0
+DecidedV2 = (g : State) (x : Result RequestV2 Refusal) → decided_v2 g x ≡ first (not (eqb (ask_number_v2 x) 0) ⇒ ask_number_v2 x ∷ breaks_rule g x ⇒ 12 ∷ asks_faulty g x ⇒ 13 ∷ []) 0
 
 -- and a V1 letter or data that ask for nothing are refused whatever the gauge's state
 abbrev pub DecidedV1 : Type 0
-DecidedV1 = (g : State) (x : AskV1) → eqb (ask_number_v1 x) 0 ≡ false → decided_v1 g x ≡ ask_number_v1 x
+DecidedV1 = (g : State) (x : Result RequestV1 Refusal) → eqb (ask_number_v1 x) 0 ≡ false → decided_v1 g x ≡ ask_number_v1 x
 
 -- the request reader, told the gauge's profile, beside a gauge of the bytes' address, with room for its answer: what the reader refuses the gauge
 -- refuses, with the same number, save V1's lock
@@ -55,7 +54,7 @@ AcceptedRead = (g : State) (room : ℕ) (s : List ℕ) → ltb room answer_room 
 
 -- "anything else is refused with 15 BENCH": 0 exactly if the bench takes the setting, and 15 otherwise
 abbrev pub WordedNumber : Type 0
-WordedNumber = (w : Worded) → Told worded_number is_taken 0 w (pick (is_taken w) 0 15)
+WordedNumber = (w : Option Bench) → Told worded_number is_taken 0 w (pick (is_taken w) 0 15)
 
 -- "The sources here are exactly `0 1 2 6 7 T2 T6`", and FS: any other is refused
 abbrev pub TakenSource : Type 0

@@ -1,12 +1,11 @@
 -- Document 01, "Settings and readings, V2": worked cases of bench settings in words.
-use Rattle.std.specs.Prelude.{Bool, cond, ◌&&◌, List, [], ◌∷◌, ℕ, eqb}
+use Rattle.std.specs.Prelude.{Bool, cond, ◌&&◌, List, [], ◌∷◌, ℕ, eqb, None, Option, Some}
 use Prim.Native.String.{String}
 use Rattle.buffer.specs.Byte.{same_text}
 use Rattle.buffer.specs.Quoted.{bytes}
 use Rattle.readings.specs.declared.Bench.TheVariants.{Reads, UnderRange, OverRange, Faulty, Status}
 use Rattle.bench_words.specs.Words.{worded_of, worded_number}
-use Rattle.bench_words.specs.declared.Worded.{Worded}
-use Rattle.bench_words.specs.declared.Worded.TheVariants.{Is, Refused}
+use Rattle.readings.specs.declared.Bench.{Bench}
 
 -- the words of a setting, the number of the bench's answer, and the setting
 pub record Case : Type 0 where
@@ -19,13 +18,13 @@ abbrev pub bench : String → String → ℕ → List ℕ → Case
 bench source value number shown = record { source = source; value = value; number = number; shown = shown }
 
 -- a value: the source's code, 1 for minus, and digits * 10 ^ up / 10 ^ down; 1 under range, 2 over range, 3 faulty; 4 and FS; none
-abbrev pub shown_of : Worded → List ℕ
-shown_of (Is (Reads code x)) = 0 ∷ code ∷ cond x.negative 1 0 ∷ x.digits ∷ x.up ∷ x.down ∷ []
-shown_of (Is (UnderRange code)) = 1 ∷ code ∷ []
-shown_of (Is (OverRange code)) = 2 ∷ code ∷ []
-shown_of (Is (Faulty code)) = 3 ∷ code ∷ []
-shown_of (Is (Status v)) = 4 ∷ v ∷ []
-shown_of Refused = []
+abbrev pub shown_of : Option Bench → List ℕ
+shown_of (Some (Reads code x)) = 0 ∷ code ∷ cond x.negative 1 0 ∷ x.digits ∷ x.up ∷ x.down ∷ []
+shown_of (Some (UnderRange code)) = 1 ∷ code ∷ []
+shown_of (Some (OverRange code)) = 2 ∷ code ∷ []
+shown_of (Some (Faulty code)) = 3 ∷ code ∷ []
+shown_of (Some (Status v)) = 4 ∷ v ∷ []
+shown_of None = []
 
 abbrev pub cases : List Case
 cases =

@@ -1,25 +1,26 @@
 -- Laws of stores in lent memory, of answers and of short texts.
 use mathlib.Core.Path.{◌≡◌, refl, sym, ap, ◌∙◌}
-use mathlib.Core.Bool.{Bool, true, false, cond, ◌&&◌, and-false, and-eq-true_iff, true≢false}
+use mathlib.Core.Bool.{Bool, true, false, cond, and-false, and_comm, and-eq-true_iff, true≢false}
 use mathlib.Core.List.{List, [], ◌∷◌, ◌++◌, append-nil}
 use Prim.Native.Nat.{ℕ, zero, suc, ◌+◌, ◌-◌, ◌*◌, ◌^◌, ◌<◌, ◌≤◌}
-use native.Mathlib.Nat.{add-zero, zero-add, add-suc, suc-add, pow-suc, pow-le-pow_right, sub-zero, zero-sub, suc-sub-suc}
+use native.Mathlib.Nat.{add-zero, add_comm, zero-add, add-suc, suc-add, pow-suc, pow-le-pow_right}
 use native.Mathlib.Numerals.{add-one}
 use native.Mathlib.Omega.{arith}
-use borrow.Author.Tests.{le-leb, lt-leb, leb-true, eq-eqb, ne_eqb, eqb-true}
+use borrow.Author.Tests.{le-leb, lt-leb, leb-true, ne_eqb}
+use lib.Pointwise.{pointwise, bytes_decides}
 use lib.Dec.{eqb, leb, eqb-zero-suc}
-use lib.ListN.{length, get_or, set, drop, take, length-take, length-drop, drop_of_length-le, length-append}
-use lib.Seq.{sets, sets-eq, drop-cons, take_at, take_all, set_out, take-nil, take-suc-set}
+use lib.ListN.{length, get_or, set, drop, take, length-take, drop_of_length-le, length-append}
+use lib.Seq.{sets, sets-eq, take_at, take_all, set_out, take-suc-set}
 use Rattle.buffer.specs.Answer.{Answer, silent, over, Stored, Sent}
-use Rattle.buffer.specs.Byte.{at, within, is_digit, leading, starts_with, same_text, until_of, numeral_from}
+use Rattle.std.proofs.lemmas.List.{drop_more, take_rest}
+use Rattle.std.proofs.lemmas.Slice.{between_is}
+use Rattle.std.specs.Char.{is_ascii_digit}
+use Rattle.std.specs.List.{list_all, prefix_len}
+use Rattle.buffer.specs.Byte.{at, within, every, is_digit, leading, starts_with, same_text, until_of}
 use Rattle.buffer.specs.Text.{text_of, cut}
 use Rattle.buffer.specs.declared.Text.{Text}
 
 -- ---- stores
-
--- one store more: what is left to store at i is the element at i, and what is left at i + 1
-pub sets_step : (m s : List ℕ) (o i : ℕ) → i < length s → sets m o (drop i s) ≡ sets (set m o (get_or s i 0)) (o + 1) (drop (i + 1) s)
-sets_step m s o i h = rw (add-one i, add-one o, drop-cons s i 0)
 
 -- stores past the end change nothing
 pub sets_out : (m : List ℕ) (o : ℕ) (bs : List ℕ) → length m ≤ o → sets m o bs ≡ m
@@ -61,18 +62,15 @@ sends k r e f n h = rw e (record { number = refl; len = n; memory = whole f h })
 
 -- for every loop that reads a slice from the front: what is left at i is the element at i, and what is left at i + 1
 pub drop_step : (s : List ℕ) (i : ℕ) → i < length s → drop i s ≡ get_or s i 0 ∷ drop (i + 1) s
-drop_step s i h = rw (add-one i, drop-cons s i 0)
+drop_step s i h = drop_more s i 0 h
 
 -- a part to the end of a slice
 pub part_rest : (s : List ℕ) (a : ℕ) → take (length s - a) (drop a s) ≡ drop a s
-part_rest s a = take_all (length s - a) (drop a s) (simp length-drop (omega arith))
+part_rest s a = take_rest s a
 
 -- a part in the middle of a slice
 pub part_middle : (a e : ℕ) (s : List ℕ) → take (e - a) (drop a s) ≡ drop a (take e s)
-part_middle zero e s = rw sub-zero
-part_middle (suc a) e [] = rw (take-nil e, take-nil (e - suc a))
-part_middle (suc a) zero (x ∷ s) = rw zero-sub
-part_middle (suc a) (suc e) (x ∷ s) = rw suc-sub-suc (part_middle a e s)
+part_middle a e s = between_is s a e
 
 -- as many as a part has, taken from the whole, is the part
 pub take_taken : (n : ℕ) (l : List ℕ) → take (length (take n l)) l ≡ take n l
@@ -100,6 +98,18 @@ pub within_above : (low high n : ℕ) → high < n → within low high n ≡ fal
 unfolding within
 within_above low high n h = rw (lt-leb n high h) (and-false (leb low n))
 
+-- ---- tests of each byte
+
+pub every_all : {A : Type 0} (p : A → Bool) (s : List A) → list_all p s ≡ every p s
+unfolding every
+every_all p [] = refl
+every_all p (x ∷ s) = rw (every_all p s)
+
+pub leading_prefix : (s : List ℕ) → prefix_len is_ascii_digit s ≡ leading s
+unfolding leading within
+leading_prefix [] = refl
+leading_prefix (x ∷ s) = rw (leading_prefix s, add_comm 1 (leading s))
+
 -- ---- two texts
 
 -- texts of different lengths differ
@@ -110,26 +120,20 @@ same_lengths [] (y ∷ t) h = refl
 same_lengths (x ∷ s) [] h = refl
 same_lengths (x ∷ s) (y ∷ t) h = rw (same_lengths s t (λ (e : length s ≡ length t). h (ap suc e)))
 
--- a text is the same as itself, and as no other
-pub same_self : (s : List ℕ) → same_text s s ≡ true
+pub same_pointwise : (s t : List ℕ) → pointwise eqb s t ≡ same_text s t
 unfolding same_text
-same_self [] = refl
-same_self (x ∷ s) = rw (same_self s, eq-eqb x x refl)
+same_pointwise [] [] = refl
+same_pointwise [] (y ∷ t) = refl
+same_pointwise (x ∷ s) [] = refl
+same_pointwise (x ∷ s) (y ∷ t) = rw (same_pointwise s t) (and_comm (eqb x y) (same_text s t))
 
-pub same_equal : (s t : List ℕ) → same_text s t ≡ true → s ≡ t
+-- so do texts that start with different characters
+pub same_first : (s t : List ℕ) → (at s 0 ≡ at t 0 → ⊥) → same_text s t ≡ false
 unfolding same_text
-same_equal [] [] e = refl
-same_equal [] (y ∷ t) e = absurd (let z : ◌≡◌ {A = ℕ} 0 1 = cc in omega arith)
-same_equal (x ∷ s) [] e = absurd (let z : ◌≡◌ {A = ℕ} 0 1 = cc in omega arith)
-same_equal (x ∷ s) (y ∷ t) e =
-    let w = (and-eq-true_iff (same_text s t) (eqb x y)).0 e in
-    cc (same_equal s t w.0, eqb-true x y w.1)
-
-pub same_step : (s t : List ℕ) (i : ℕ) → i < length s → i < length t → same_text (drop i s) (drop i t) ≡ (same_text (drop (i + 1) s) (drop (i + 1) t) && eqb (get_or s i 0) (get_or t i 0))
-unfolding same_text
-same_step s t i h k = rw (drop_step s i h, drop_step t i k)
-
--- ---- bytes at the front, and past the end
+same_first [] [] h = absurd (h refl)
+same_first [] (y ∷ t) h = refl
+same_first (x ∷ s) [] h = refl
+same_first (x ∷ s) (y ∷ t) h = rw (ne_eqb x y h) (and-false (same_text s t))
 
 -- past the end every byte is 0
 pub at_past : (s : List ℕ) (i : ℕ) → length s ≤ i → 0 ≡ at s i
@@ -137,13 +141,14 @@ at_past [] i h = refl
 at_past (x ∷ s) zero h = omega arith
 at_past (x ∷ s) (suc i) h = at_past s i (omega arith)
 
-pub leading_step : (s : List ℕ) (i : ℕ) → i < length s → leading (drop i s) ≡ cond (is_digit (get_or s i 0)) (leading (drop (i + 1) s) + 1) 0
-unfolding leading
-leading_step s i h = ap leading (drop_step s i h)
+-- a text is the same as itself, and as no other
+pub same_self : (s : List ℕ) → same_text s s ≡ true
+same_self s = sym (same_pointwise s s) ∙ (bytes_decides s s).1 refl
 
-pub leading_end : (s : List ℕ) (i : ℕ) → length s ≤ i → leading (drop i s) ≡ 0
-unfolding leading
-leading_end s i h = ap leading (drop_of_length-le s h)
+pub same_equal : (s t : List ℕ) → same_text s t ≡ true → s ≡ t
+same_equal s t e = (bytes_decides s t).0 (same_pointwise s t ∙ e)
+
+-- ---- bytes at the front
 
 pub leading_le : (s : List ℕ) → leading s ≤ length s
 unfolding leading
@@ -191,14 +196,6 @@ until_le b (x ∷ s) = go (eqb x b) (until_le b s)
     go false h = omega arith
 
 -- ---- numerals
-
--- the character at i, of at most n, and what is left of them at i + 1
-pub numeral_step : (s : List ℕ) (v i n : ℕ) → i < length s → i < n
-    → numeral_from v (take (n - i) (drop i s)) ≡ numeral_from (v * 10 + (get_or s i 0 - 48)) (take (n - (i + 1)) (drop (i + 1) s))
-unfolding numeral_from
-numeral_step s v i n h k =
-    let e : n - i ≡ suc (n - (i + 1)) = omega arith in
-    rw (e, drop_step s i h)
 
 pub ten_step : (i : ℕ) → 10 ^ (i + 1) ≡ 10 ^ i * 10
 ten_step i = rw add-one (pow-suc 10 i)

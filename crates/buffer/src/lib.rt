@@ -5,28 +5,42 @@ ghost use Rattle.buffer.specs.Answer.{Stored};
 ghost use Rattle.buffer.specs.Byte.{at, within, every, leading, starts_with, same_text, until_of, numeral, word_of};
 ghost use Rattle.buffer.specs.Text.{text_of, cut};
 
-// An answer's number, and the length of its reply.
+// An answer's number, and the length of its reply. (No Result: document 01 answers both, a refusal that is answered has a reply too, and the theorems
+// over sequences speak of both.)
 #[derive(Clone, Copy)]
 pub struct Written {
     pub number: u16,
     pub len: usize,
 }
 
+// A gauge after a request, and what it answered.
+#[derive(Clone, Copy)]
+pub struct Answered<G> {
+    pub gauge: G,
+    pub written: Written,
+}
+
+// A gauge after a setting of its bench, document 01's term for what sets its readings from outside, and the answer's number.
+#[derive(Clone, Copy)]
+pub struct BenchAnswer<G> {
+    pub gauge: G,
+    pub number: u16,
+}
+
 // Stores src from place `at` on. What would fall past the end is left out.
+#[tactic(auto, using(crate::proofs::Laws::sets_out))]
 pub fn put(out: &mut [u8], at: usize, src: &[u8])
     ensures { Stored out.old at src.now out.new }
 {
-    let mut i: usize = 0;
-    while i < src.len() {
+    for (i, b) in src.iter().enumerate() {
         if out.len() - i <= at {
             return;
         }
-        out[at + i] = src[i];
-        i += 1;
+        out[at + i] = *b;
     }
 }
 
-// A short text: the first len of its bytes.
+// A short text: the first len of its bytes, in fixed memory, since nothing here uses a heap.
 #[derive(Clone, Copy)]
 pub struct Text {
     pub bytes: [u8; 24],
@@ -38,60 +52,55 @@ impl Text {
     pub const MOST: usize = 24;
 
     pub const EMPTY: Text = Text {
-        bytes: [
-            0, 0, 0, 0, 0, 0, 0, 0, 0, 0, 0, 0, 0, 0, 0, 0, 0, 0, 0, 0, 0, 0, 0, 0,
-        ],
+        bytes: [0; 24],
         len: 0,
     };
 
     // The text and one character more. A full text stays as it is.
-    pub fn push(self, b: u8) -> Text
+    pub fn push(mut self, b: u8) -> Text
         ensures { text_of result ≡ cut (text_of self ++ (b ∷ [])) }
     {
-        let mut bytes = self.bytes;
-        let mut len = self.len;
-        if len < Text::MOST {
-            bytes[len] = b;
-            len += 1;
+        if self.len < Text::MOST {
+            self.bytes[self.len] = b;
+            self.len += 1;
         }
-        Text { bytes, len }
+        self
     }
 
     // The text and then all of src, as far as it holds them.
-    pub fn add(self, src: &[u8]) -> Text
+    pub fn add(mut self, src: &[u8]) -> Text
         ensures { text_of result ≡ cut (text_of self ++ src.now) }
     {
-        let mut bytes = self.bytes;
-        let mut len = self.len;
-        let mut i: usize = 0;
-        while i < src.len() {
-            if len < Text::MOST {
-                bytes[len] = src[i];
-                len += 1;
+        for b in src {
+            if self.len < Text::MOST {
+                self.bytes[self.len] = *b;
+                self.len += 1;
             }
-            i += 1;
         }
-        Text { bytes, len }
+        self
     }
 
     // The text and then another, as far as it holds them.
     pub fn join(self, other: Text) -> Text
         ensures { text_of result ≡ cut (text_of self ++ text_of other) }
     {
-        let n = other.size();
-        let bytes = other.bytes;
-        self.add(&bytes[..n])
+        self.add(other.as_slice())
     }
 
     // How many characters the text has.
+    #[tactic(auto, unfolding(crate::specs::Text::text_of))]
     pub fn size(self) -> usize
         ensures { result ≡ length (text_of self) }
     {
-        let n = self.len;
-        if n < Text::MOST {
-            return n;
-        }
-        Text::MOST
+        self.len.min(Text::MOST)
+    }
+
+    // The text's characters.
+    #[tactic(auto, using(crate::proofs::Laws::shown, crate::proofs::Laws::shown_le))]
+    pub fn as_slice(&self) -> &[u8]
+        ensures { result.now ≡ text_of self.now }
+    {
+        &self.bytes[..self.size()]
     }
 }
 
@@ -99,117 +108,82 @@ impl Text {
 pub fn put_text(out: &mut [u8], at: usize, t: Text)
     ensures { Stored out.old at (text_of t) out.new }
 {
-    let n = t.size();
-    let bytes = t.bytes;
-    put(out, at, &bytes[..n]);
+    put(out, at, t.as_slice());
 }
 
 // Whether low <= b <= high.
+#[tactic(auto, unfolding(crate::specs::Byte::within))]
 pub fn is_within(b: u8, low: u8, high: u8) -> bool
     ensures { result ≡ within low high b }
 {
-    low <= b && b <= high
+    (low..=high).contains(&b)
 }
 
 // Whether each byte of s is from low to high.
 pub fn all_within(s: &[u8], low: u8, high: u8) -> bool
     ensures { result ≡ every (within low high) s.now }
 {
-    let mut i: usize = 0;
-    while i < s.len() {
-        if !is_within(s[i], low, high) {
-            return false;
-        }
-        i += 1;
-    }
-    true
+    s.iter().all(|b| is_within(*b, low, high))
 }
 
 // What a digit stands for. Below `0` it is 0.
 pub fn value(b: u8) -> u32
     ensures { result ≡ b - 48 }
 {
-    if b < 48 {
-        return 0;
-    }
-    (b - 48) as u32
+    u32::from(b.saturating_sub(b'0'))
 }
 
 // The number that the first six characters of s spell.
 pub fn numeral_of(s: &[u8]) -> u32
     ensures { result ≡ numeral (take 6 s.now) }
 {
-    let mut v: u32 = 0;
-    let mut i: usize = 0;
-    while i < s.len() {
-        if 6 <= i {
-            return v;
-        }
-        v = v * 10 + value(s[i]);
-        i += 1;
+    let first = &s[..s.len().min(6)];
+    let mut v = 0;
+    for b in first {
+        v = v * 10 + value(*b);
     }
     v
 }
 
 // Whether two texts are the same.
+#[tactic(auto, using(crate::proofs::Laws::same_pointwise))]
 pub fn is_same(s: &[u8], t: &[u8]) -> bool
     ensures { result ≡ same_text s.now t.now }
 {
-    if s.len() != t.len() {
-        return false;
-    }
-    let mut i: usize = 0;
-    while i < s.len() {
-        if s[i] != t[i] {
-            return false;
-        }
-        i += 1;
-    }
-    true
+    s == t
 }
 
 // The byte at place i, and 0 past the end.
 pub fn byte_at(s: &[u8], i: usize) -> u8
     ensures { result ≡ at s.now i }
 {
-    if s.len() <= i {
-        return 0;
-    }
-    s[i]
+    s.get(i).copied().unwrap_or(0)
 }
 
 // The number of four bytes, the high byte first.
 pub fn word(a: u8, b: u8, c: u8, d: u8) -> u32
     ensures { result ≡ word_of a b c d }
 {
-    (a as u32) * 16777216 + (b as u32) * 65536 + (c as u32) * 256 + (d as u32)
+    u32::from_be_bytes([a, b, c, d])
 }
 
 // How many digits stand at the front of s.
 pub fn count_digits(s: &[u8]) -> usize
     ensures { result ≡ leading s.now }
 {
-    let mut i: usize = 0;
-    while i < s.len() {
-        if !is_within(s[i], 48, 57) {
-            return i;
-        }
-        i += 1;
-    }
-    i
+    s.iter().take_while(|b| b.is_ascii_digit()).count()
 }
 
 // Whether s starts with the character b.
+#[tactic(auto, unfolding(crate::specs::Byte::starts_with))]
 pub fn starts_with(s: &[u8], b: u8) -> bool
     ensures { result ≡ starts_with b s.now }
 {
-    if s.len() == 0 {
-        return 0 == b;
-    }
-    s[0] == b
+    byte_at(s, 0) == b
 }
 
-// A place that has no b before it, found four bytes at a time: the first b, or where fewer than four bytes are left.
+// A place that has no b before it: the first b, or where fewer than four bytes are left.
+// Four bytes at a time: a byte at a time costs 15 to 18 instructions more a request (docs/PERFORMANCE.md).
 fn passed_by_fours(s: &[u8], b: u8) -> usize
     ensures { (result ≤ length s.now) × (result + until_of b (drop result s.now) ≡ until_of b s.now) }
 {
@@ -236,22 +210,17 @@ fn passed_by_fours(s: &[u8], b: u8) -> usize
 pub fn until(s: &[u8], b: u8) -> usize
     ensures { result ≡ until_of b s.now }
 {
-    let mut i = passed_by_fours(s, b);
-    while i < s.len() {
+    for i in passed_by_fours(s, b)..s.len() {
         if s[i] == b {
             return i;
         }
-        i += 1;
     }
-    i
+    s.len()
 }
 
 // What is left of s from place a on.
-pub fn rest<'a>(s: &'a [u8], a: usize) -> &'a [u8]
+pub fn rest(s: &[u8], a: usize) -> &[u8]
     ensures { result.now ≡ drop a s.now }
 {
-    if s.len() < a {
-        return &s[..0];
-    }
-    &s[a..]
+    &s[a.min(s.len())..]
 }

@@ -9,6 +9,8 @@ ghost use Rattle.sources.specs.declared.Profile.{Profile};
 ghost use Rattle.settings.specs.Limits.{limits_of};
 ghost use Rattle.c_interface.specs.Boundary.{profile_at, RanTo, PlayedOn};
 
+use sources::Profile;
+
 // Plays a script of calls on a text gauge of the third profile and an OPG at factory settings (player::play): how many calls were made.
 #[unsafe(no_mangle)]
 pub extern "C" fn perrezkun_play(
@@ -19,22 +21,23 @@ pub extern "C" fn perrezkun_play(
 ) -> usize
     ensures { RanTo Profile.Standard script.now memory.old numbers.old lens.old result memory.new numbers.new lens.new }
 {
-    let played = player::play(sources::Profile::Standard, script, memory, numbers, lens);
-    played.calls
+    player::play(Profile::Standard, script, memory, numbers, lens).calls
 }
 
-// The profile that a number names: 1 VSH, 2 VSM, and any other the third.
-fn profile_at(n: u8) -> sources::Profile
+// The profile that a number names: 0 the third, 1 VSH, 2 VSM.
+#[tactic(auto, unfolding(crate::specs::Boundary::profile_at, buffer::specs::First::pick))]
+fn profile_at(n: u8) -> Option<Profile>
     ensures { result ≡ profile_at n }
 {
     match n {
-        1 => sources::Profile::Vsh,
-        2 => sources::Profile::Vsm,
-        _ => sources::Profile::Standard,
+        0 => Some(Profile::Standard),
+        1 => Some(Profile::Vsh),
+        2 => Some(Profile::Vsm),
+        _ => None,
     }
 }
 
-// The same on a text gauge of the profile that a number names: 0 the third, 1 VSH, 2 VSM. Where it names none, no call is made.
+// The same on a text gauge of the profile that a number names. Where it names none, no call is made.
 #[unsafe(no_mangle)]
 pub extern "C" fn perrezkun_play_on(
     profile: u8,
@@ -45,11 +48,10 @@ pub extern "C" fn perrezkun_play_on(
 ) -> usize
     ensures { PlayedOn profile script.now memory.old numbers.old lens.old result memory.new numbers.new lens.new }
 {
-    if 2 < profile {
-        return 0;
+    match profile_at(profile) {
+        Some(named) => player::play(named, script, memory, numbers, lens).calls,
+        None => 0,
     }
-    let on = player::play(profile_at(profile), script, memory, numbers, lens);
-    on.calls
 }
 
 // The CRC of OPG frames, over any bytes.
@@ -66,7 +68,7 @@ pub extern "C" fn perrezkun_opg_crc(bytes: &[u8]) -> u16
 pub extern "C" fn perrezkun_rewrite_text(request: &[u8], out: &mut [u8], len: &mut usize) -> u16
     ensures { Rewritten (limits_of Profile.Standard) request.now out.old out.new (record { number = result; len = len.new }) }
 {
-    let w = rewriter::rewrite_text(sources::Profile::Standard, request, out);
+    let w = rewriter::rewrite_text(Profile::Standard, request, out);
     *len = w.len;
     w.number
 }

@@ -1,176 +1,176 @@
 // The calls of a script, each a line.
-use script_words::{row, word};
+use script_words::word;
 use sources::Profile;
 
-// The calls, by the place of their rows in the table of `read_row`. OPG_NONE is `opgbench none`, UNKNOWN a line that is no call.
-pub const RESTART: usize = 0;
+// The longest answer memory.
+pub const LENT_MAX: usize = 256;
 
-pub const TEXT: usize = 1;
-
-pub const OPG: usize = 2;
-
-pub const BENCH: usize = 3;
-
-pub const OPG_BENCH: usize = 4;
-
-pub const LINE: usize = 5;
-
-pub const REQUEST: usize = 6;
-
-pub const OPG_REQUEST: usize = 7;
-
-pub const REPLY: usize = 8;
-
-pub const OPG_REPLY: usize = 9;
-
-pub const WRITE_V2: usize = 10;
-
-pub const WRITE_V1: usize = 11;
-
-pub const WRITE_OPG: usize = 12;
-
-pub const OPG_NONE: usize = 254;
-
-const UNKNOWN: usize = row::NONE;
-
-// A call: its profile, its first two numbers, how many bytes its HEX have, and how many of them the first HEX of two has. What a call lacks is 0, and
-// the third profile.
+// A call, with what its words say. A HEX is its bytes; `lent` is LENT.
 #[derive(Clone, Copy)]
-pub struct Call {
-    pub kind: usize,
-    pub profile: Profile,
-    pub first: usize,
-    pub second: usize,
-    pub asked: usize,
-    pub len: usize,
+pub enum Call<'a> {
+    Restart(Profile),
+    Text {
+        lent: usize,
+        request: &'a [u8],
+    },
+    Line {
+        lent: usize,
+    },
+    Opg {
+        lent: usize,
+        request: &'a [u8],
+    },
+    Bench {
+        source: &'a [u8],
+        value: &'a [u8],
+    },
+    // the bits of a pressure, or `none`
+    OpgBench(Option<u32>),
+    Request(Profile, &'a [u8]),
+    OpgRequest(&'a [u8]),
+    Reply {
+        profile: Profile,
+        from: u16,
+        request: &'a [u8],
+        reply: &'a [u8],
+    },
+    OpgReply {
+        request: &'a [u8],
+        reply: &'a [u8],
+    },
+    Write {
+        lent: usize,
+        request: Typed<'a>,
+    },
 }
 
-// The calls that may end with a profile.
-fn may_name(call: &[u8]) -> bool {
-    if buffer::is_same(call, b"restart") {
-        return true;
-    }
-    if buffer::is_same(call, b"request") {
-        return true;
-    }
-    if buffer::is_same(call, b"reply") {
-        return true;
-    }
-    buffer::is_same(call, b"write2")
+// A typed request in words, and where it goes.
+#[derive(Clone, Copy)]
+pub enum Typed<'a> {
+    V2(Profile, u16, &'a [&'a [u8]]),
+    V1(u16, &'a [&'a [u8]]),
+    Opg(&'a [&'a [u8]]),
 }
 
-// Where a line's last four bytes begin, which are a profile's word and the space before it.
-fn before_last(line: &[u8]) -> usize {
-    let n = line.len();
-    if n < 4 {
-        return 0;
+// LENT.
+fn lent_of(word: &[u8]) -> Option<usize> {
+    let n = word::number(word, 3)?;
+    if LENT_MAX < n {
+        return None;
     }
-    n - 4
+    Some(n)
 }
 
-// The profile that a line ends with, or the third.
-fn profile_of(line: &[u8]) -> Profile {
-    if !may_name(word::nth(line, 0)) {
-        return Profile::Standard;
-    }
-    let last = buffer::rest(line, before_last(line));
-    if buffer::is_same(last, b" vsh") {
-        return Profile::Vsh;
-    }
-    if buffer::is_same(last, b" vsm") {
-        return Profile::Vsm;
-    }
-    Profile::Standard
+// ADDRESS.
+fn address_of(word: &[u8]) -> Option<u16> {
+    u16::try_from(word::number(word, 5)?).ok()
 }
 
-// The line without the profile that it ends with.
-pub fn without_profile<'a>(line: &'a [u8], profile: Profile) -> &'a [u8] {
-    match profile {
-        Profile::Standard => &line[..],
-        _ => word::front(line, before_last(line)),
-    }
+// The bytes of HEX, which are put into memory.
+fn bytes_of<'a>(word: &[u8], memory: &'a mut [u8]) -> Option<&'a [u8]> {
+    let (bytes, _) = word::bytes(word, memory)?;
+    Some(bytes)
 }
 
-// x is HEX, v a word that the call reads itself.
-fn read_row(line: &[u8]) -> row::Row {
-    row::read(
-        b"restart/        text lx/        opg lx/         bench vv/       opgbench x/     line l/         request x/      opgrequest x/   reply hxx/      opgreply xx/    write2 lh./     write1 lh./     writeopg l./    ",
-        line,
-    )
+// The same of two HEX.
+fn both_of<'a>(first: &[u8], second: &[u8], memory: &'a mut [u8]) -> Option<(&'a [u8], &'a [u8])> {
+    let (one, left) = word::bytes(first, memory)?;
+    Some((one, bytes_of(second, left)?))
 }
 
-// Which word is the first HEX, and which the last; 0 for none.
-fn first_hex(kind: usize) -> usize {
-    match kind {
-        REPLY => 2,
-        OPG_REPLY => 1,
-        _ => 0,
-    }
+// BITS.
+fn bits_of(word: &[u8], memory: &mut [u8]) -> Option<u32> {
+    let &[a, b, c, d] = bytes_of(word, memory)? else {
+        return None;
+    };
+    Some(u32::from_be_bytes([a, b, c, d]))
 }
 
-fn last_hex(kind: usize) -> usize {
-    match kind {
-        OPG_BENCH => 1,
-        REQUEST => 1,
-        OPG_REQUEST => 1,
-        TEXT => 2,
-        OPG => 2,
-        OPG_REPLY => 2,
-        REPLY => 3,
-        _ => 0,
-    }
-}
-
-// Puts the bytes of a HEX into memory from `at` on, and says where they end.
-fn read_bytes(line: &[u8], place: usize, memory: &mut [u8], at: usize) -> usize {
-    if place == 0 {
-        return at;
-    }
-    word::bytes(word::nth(line, place), memory, at)
-}
-
-// The call of a row: an OPG without a pressure is a call of its own.
-fn kind_of(place: usize, line: &[u8]) -> usize {
-    if place != OPG_BENCH {
-        return place;
-    }
-    if buffer::is_same(word::nth(line, 1), b"none") {
-        return OPG_NONE;
-    }
-    place
-}
-
-// The call where its HEX end there.
-fn ended(kind: usize, end: usize) -> usize {
-    if word::NOWHERE <= end {
-        return UNKNOWN;
-    }
-    kind
-}
-
-// Reads a line, and puts the bytes of its HEX into memory.
-pub fn read(line: &[u8], memory: &mut [u8]) -> Call {
-    let profile = profile_of(line);
-    let r = read_row(without_profile(line, profile));
-    let kind = kind_of(r.place, line);
-    let numbers = r.numbers;
-    let asked = read_bytes(line, first_hex(kind), memory, 0);
-    let len = read_bytes(line, last_hex(kind), memory, asked);
-    Call {
-        kind: ended(kind, len),
-        profile,
-        first: numbers[0],
-        second: numbers[1],
-        asked,
-        len,
+// A profile's word, or no word for the third.
+fn profile_of(words: &[&[u8]]) -> Option<Profile> {
+    match words {
+        [] => Some(Profile::Standard),
+        [b"vsh"] => Some(Profile::Vsh),
+        [b"vsm"] => Some(Profile::Vsm),
+        _ => None,
     }
 }
 
-// How much memory a call is lent.
-pub fn lent(kind: usize, first: usize) -> usize {
-    match kind {
-        REQUEST => 109,
-        OPG_REQUEST => 32,
-        _ => first,
+// Words and the profile that they end with, or the third.
+fn part_profile<'a, 'b>(words: &'b [&'a [u8]]) -> (Profile, &'b [&'a [u8]]) {
+    match words.split_last() {
+        Some((&b"vsh", before)) => (Profile::Vsh, before),
+        Some((&b"vsm", before)) => (Profile::Vsm, before),
+        _ => (Profile::Standard, words),
+    }
+}
+
+// The call of a line's words. The bytes of its HEX are put into memory.
+pub fn read<'a>(words: &'a [&'a [u8]], memory: &'a mut [u8]) -> Option<Call<'a>> {
+    match words {
+        [b"restart", profile @ ..] => Some(Call::Restart(profile_of(profile)?)),
+        [b"text", lent, request] => Some(Call::Text {
+            lent: lent_of(lent)?,
+            request: bytes_of(request, memory)?,
+        }),
+        [b"line", lent] => Some(Call::Line {
+            lent: lent_of(lent)?,
+        }),
+        [b"opg", lent, request] => Some(Call::Opg {
+            lent: lent_of(lent)?,
+            request: bytes_of(request, memory)?,
+        }),
+        [b"bench", source, value] => Some(Call::Bench { source, value }),
+        [b"opgbench", b"none"] => Some(Call::OpgBench(None)),
+        [b"opgbench", bits] => Some(Call::OpgBench(Some(bits_of(bits, memory)?))),
+        [b"request", request, profile @ ..] => Some(Call::Request(
+            profile_of(profile)?,
+            bytes_of(request, memory)?,
+        )),
+        [b"opgrequest", request] => Some(Call::OpgRequest(bytes_of(request, memory)?)),
+        [b"reply", from, request, reply, profile @ ..] => {
+            let (request, reply) = both_of(request, reply, memory)?;
+            Some(Call::Reply {
+                profile: profile_of(profile)?,
+                from: address_of(from)?,
+                request,
+                reply,
+            })
+        }
+        [b"opgreply", request, reply] => {
+            let (request, reply) = both_of(request, reply, memory)?;
+            Some(Call::OpgReply { request, reply })
+        }
+        [b"write2", lent, to, request @ ..] => {
+            let (profile, request) = part_profile(request);
+            Some(Call::Write {
+                lent: lent_of(lent)?,
+                request: Typed::V2(profile, address_of(to)?, request),
+            })
+        }
+        [b"write1", lent, to, request @ ..] => Some(Call::Write {
+            lent: lent_of(lent)?,
+            request: Typed::V1(address_of(to)?, request),
+        }),
+        [b"writeopg", lent, request @ ..] => Some(Call::Write {
+            lent: lent_of(lent)?,
+            request: Typed::Opg(request),
+        }),
+        _ => None,
+    }
+}
+
+impl<'a> Call<'a> {
+    // How much memory the call is lent. A request that is read and written again is lent what its writer asks for.
+    pub fn lent(self) -> usize {
+        match self {
+            Call::Text { lent, .. }
+            | Call::Line { lent }
+            | Call::Opg { lent, .. }
+            | Call::Write { lent, .. } => lent,
+            Call::Request(..) => 109,
+            Call::OpgRequest(_) => 32,
+            _ => 0,
+        }
     }
 }

@@ -3,113 +3,66 @@ use script_words::word;
 use std::io;
 use std::io::Read;
 
-// The longest line, and the memory that holds one.
-const LINE_MAX: usize = 65536;
+// What a step meets: a part of a line, a line, the last line, or the end of the input. A line that is too long is empty here.
+#[derive(Clone, Copy)]
+pub enum Met<'a> {
+    Part,
+    Line(&'a [u8]),
+    Last(&'a [u8]),
+    End,
+}
 
-// What a step meets: a part of a line, a line, the last line, or the end of the input.
-const PART: u8 = 0;
-
-pub const LINE: u8 = 1;
-
-pub const LAST: u8 = 2;
-
-const END: u8 = 3;
-
-// Where the input stands: its bytes from i to n are still to be taken, and the line has `len` bytes, over LINE_MAX for one that is too long.
+// Where the input stands: its bytes from `from` to `to` are still to be taken, and the line has `len` bytes so far, or is too long.
 #[derive(Clone, Copy)]
 pub struct Cursor {
-    pub i: usize,
-    pub n: usize,
-    pub len: usize,
-    pub met: u8,
+    pub from: usize,
+    pub to: usize,
+    pub len: Option<usize>,
 }
 
 pub const START: Cursor = Cursor {
-    i: 0,
-    n: 0,
-    len: 0,
-    met: PART,
+    from: 0,
+    to: 0,
+    len: Some(0),
 };
 
-// Adds bytes to a line that has `len` of them, and answers how many it then has.
-fn add(line: &mut [u8], len: usize, bytes: &[u8]) -> usize {
-    let room = line.len();
-    if room < len {
-        return len;
-    }
-    if room - len < bytes.len() {
-        return LINE_MAX + 1;
-    }
-    buffer::put(line, len, bytes);
-    len + bytes.len()
+// Adds bytes to a line of so many, and says how many it then has; none for one that is too long.
+fn add(line: &mut [u8], len: Option<usize>, bytes: &[u8]) -> Option<usize> {
+    let at = len?;
+    let end = at.checked_add(bytes.len())?;
+    line.get_mut(at..end)?.copy_from_slice(bytes);
+    Some(end)
 }
 
-// The place after k bytes from place i on, and their LF.
-fn past(i: usize, k: usize) -> usize {
-    if LINE_MAX < i {
-        return LINE_MAX;
-    }
-    if LINE_MAX < k {
-        return LINE_MAX;
-    }
-    i + k + 1
+// The line of so many bytes.
+fn line_of(line: &[u8], len: Option<usize>) -> &[u8] {
+    word::front(line, len.unwrap_or(0))
 }
 
-// What a read of so many bytes meets, where the line has `len` bytes so far. The input's end ends a line.
-fn met_by(got: usize, len: usize) -> u8 {
-    if 0 < got {
-        return PART;
-    }
-    if 0 < len {
-        return LAST;
-    }
-    END
-}
-
-// Reads on, once.
-fn read_on(reader: &mut impl Read, len: usize, input: &mut [u8]) -> io::Result<Cursor> {
-    let got = reader.read(input)?;
-    Ok(Cursor {
-        i: 0,
-        n: got,
-        len,
-        met: met_by(got, len),
-    })
-}
-
-// How many bytes the line has before a step: none where the last step ended it.
-fn kept(c: Cursor) -> usize {
-    if c.met == LINE {
-        return 0;
-    }
-    c.len
-}
-
-// Takes the line on, up to its LF or the end of what was read, and then reads on. A read that failed is the error.
-pub fn step(
+// Takes the line on, up to its LF or the end of what was read, and then reads on, once. A read that failed is the error; the input's end ends a line.
+pub fn step<'a>(
     reader: &mut impl Read,
-    c: Cursor,
+    c: &mut Cursor,
     input: &mut [u8],
-    line: &mut [u8],
-) -> io::Result<Cursor> {
-    let rest = buffer::rest(word::front(input, c.n), c.i);
+    line: &'a mut [u8],
+) -> io::Result<Met<'a>> {
+    let rest = buffer::rest(word::front(input, c.to), c.from);
     let k = buffer::until(rest, b'\n');
-    let len = add(line, kept(c), word::front(rest, k));
-    if k < rest.len() {
-        return Ok(Cursor {
-            i: past(c.i, k),
-            n: c.n,
-            len,
-            met: LINE,
-        });
+    let ends = k < rest.len();
+    let len = add(line, c.len, word::front(rest, k));
+    if ends {
+        c.from = c.from.saturating_add(k).saturating_add(1);
+        c.len = Some(0);
+        return Ok(Met::Line(line_of(line, len)));
     }
-    read_on(reader, len, input)
-}
-
-// The line of n bytes, or an empty one where it is too long.
-pub fn line_of<'a>(line: &'a [u8], n: usize) -> &'a [u8] {
-    if LINE_MAX < n {
-        return word::front(line, 0);
+    c.from = 0;
+    c.to = reader.read(input)?;
+    c.len = len;
+    if 0 < c.to {
+        return Ok(Met::Part);
     }
-    word::front(line, n)
+    match len {
+        Some(0) => Ok(Met::End),
+        _ => Ok(Met::Last(line_of(line, len))),
+    }
 }

@@ -1,3 +1,4 @@
 pub mod Laws
+pub mod Fronts
 pub mod Sizes
 pub mod Open

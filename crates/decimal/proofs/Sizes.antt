@@ -4,16 +4,18 @@ use mathlib.Core.Bool.{Bool, true, false, not}
 use mathlib.Core.Logic.{inl, inr}
 use Prim.Native.Nat.{ℕ, zero, suc, ◌+◌, ◌-◌, ◌*◌, ◌/◌, ◌%◌, ◌^◌, ◌<◌, ◌≤◌}
 use lib.Pow.{pow-add}
-use native.Mathlib.Nat.{one-le-pow, mul_assoc, mul-le-mul, mul-le-mul_right, mul-lt-mul_of_pos_right, mul-mod_left, mul-div_left, mul-div-mul_right, dvd_of_mod-eq-zero, mod-eq-zero_of_dvd, dvd_of_mul-dvd-mul_right, mul-dvd-mul_right, zero-mul, mul-pos, suc-mul}
+use native.Mathlib.Nat.{one-le-pow, mul_assoc, mul-le-mul, mul-le-mul_right, mul-lt-mul_of_pos_right, mul-mod_left, mul-div_left, mul-div-mul_right, dvd_of_mod-eq-zero, mod-eq-zero_of_dvd, dvd_of_mul-dvd-mul_right, mul-dvd-mul_right, zero-mul, mul-pos, suc-mul, mul-one}
 use native.Mathlib.Omega.{arith}
-use borrow.Author.Tests.{lt-ltb, le-ltb, le-leb, eq-eqb, ne_eqb, ltb-true, ltb-false, eqb-true, eqb-false}
-use lib.Dec.{ltb, eqb, eqb-suc-zero}
+use borrow.Author.Tests.{lt-ltb, le-ltb, le-leb, lt-leb, eq-eqb, ne_eqb, ltb-true, ltb-false, leb-true, leb-false, eqb-true, eqb-false}
+use lib.Dec.{ltb, leb, eqb, eqb-suc-zero}
+use Rattle.std.specs.Prelude.{None, Some, Result, Ok, Err, min}
+use Rattle.std.specs.Result.{OkIff, result_ok}
+use Rattle.std.proofs.lemmas.Bool.Decides.{nat_tests}
 use Rattle.buffer.specs.First.{pick}
 use Rattle.buffer.proofs.Laws.{ten_step, ten_max}
 use Rattle.decimal.specs.Exact.{digits_in, size_of}
 use Rattle.decimal.specs.Number.{counted_of}
 use Rattle.decimal.specs.Inner.{Scaled}
-use Rattle.decimal.specs.declared.Hundredths.{Hundredths}
 
 pub ten_pos : (k : ℕ) → 0 < 10 ^ k
 ten_pos k = one-le-pow k 10 (omega arith)
@@ -50,15 +52,59 @@ less_left a b p q r h k (inl e) = rw (ten_split a q p h, e) (less_at (a * 10 ^ (
 less_left a b p q r h k (inr w) =
     le-ltb r b (omega (arith, w.0)) ∙ sym (le-ltb (a * 10 ^ (p - q)) b (omega (arith, w.1))) ∙ rw (ten_split a q p h) (less_at (a * 10 ^ (p - q)) b q)
 
+-- both at the smaller place
+at_place : (m d r : ℕ) → d ≡ 0 → m < 4294967296 → Scaled m d r → r ≡ m
+at_place m d r z h (inl e) = rw z at e ∙ mul-one m
+at_place m d r z h (inr w) = absurd (omega (arith, w.1, rw z at w.1))
+
+pub less_at_min : (a b p q k r s : ℕ) → k ≡ min p q → a < 4294967296 → b < 4294967296 → Scaled a (p - k) r → Scaled b (q - k) s
+    → ltb r s ≡ ltb (a * 10 ^ p) (b * 10 ^ q)
+less_at_min a b p q k r s e f g x y = go (leb p q) refl
+  where
+    go : (t : Bool) → leb p q ≡ t → ltb r s ≡ ltb (a * 10 ^ p) (b * 10 ^ q)
+    go true l =
+        let h = leb-true p q l in
+        let i : k ≡ p = omega arith in
+        rw (at_place a (p - k) r (omega arith) f x) (less_right a b p q s h f (rw i at y))
+    go false l =
+        let h = leb-false p q l in
+        let i : k ≡ q = omega arith in
+        rw (at_place b (q - k) s (omega arith) g y) (less_left a b p q r (omega arith) g (rw i at x))
+
+-- a product that saturates is the product, or beyond a u32 as the product is
+pub saturates : (m d p r : ℕ) → p ≡ min (10 ^ d) 18446744073709551615 → r ≡ min (m * p) 18446744073709551615 → Scaled m d r
+saturates zero d p r e f = inl (rw (zero-mul p) at f ∙ sym (zero-mul (10 ^ d)))
+saturates (suc m) d p r e f = go (leb (10 ^ d) 18446744073709551615) refl (leb (suc m * 10 ^ d) 18446744073709551615) refl
+  where
+    go : (t : Bool) → leb (10 ^ d) 18446744073709551615 ≡ t → (u : Bool) → leb (suc m * 10 ^ d) 18446744073709551615 ≡ u → Scaled (suc m) d r
+    go true h u g =
+        let k = leb-true (10 ^ d) 18446744073709551615 h in
+        let q : p ≡ 10 ^ d = omega arith in
+        product u g (rw q at f)
+      where
+        product : (u : Bool) → leb (suc m * 10 ^ d) 18446744073709551615 ≡ u → r ≡ min (suc m * 10 ^ d) 18446744073709551615 → Scaled (suc m) d r
+        product true g f = inl (omega (arith, leb-true (suc m * 10 ^ d) 18446744073709551615 g))
+        product false g f = let k = leb-false (suc m * 10 ^ d) 18446744073709551615 g in inr (omega arith, omega arith)
+    go false h u g =
+        let k = leb-false (10 ^ d) 18446744073709551615 h in
+        let q : p ≡ 18446744073709551615 = omega arith in
+        inr (omega (arith, rw q at f), omega (arith, suc-mul m (10 ^ d)))
+
 -- a size is 0 exactly where its mantissa is
 pub units_pos : (m p : ℕ) → 0 < m → 0 < m * 10 ^ p
 units_pos m p h = mul-pos h (ten_pos p)
 
 -- ---- hundredths
 
-large : (h : ℕ) → 4294967296 ≤ h → counted_of h ≡ Hundredths.Other
+large : (h : ℕ) → 4294967296 ≤ h → counted_of h ≡ None
 unfolding counted_of pick
 large h k = rw (le-leb 4294967296 h k)
+
+-- the count that a conversion to a u32 gives
+pub converted : {E : Type 0} (r : Result ℕ E) (v : ℕ) → OkIff r (v < 4294967296) v → result_ok r ≡ counted_of v
+unfolding counted_of pick
+converted (Ok x) v w = rw (lt-leb 4294967296 v w.0) (ap Some w.1)
+converted (Err x) v w = sym (large v (omega (arith, w)))
 
 -- what is scaled beyond a u32 is no count that it can hold
 pub counted_scaled : (m d r : ℕ) → Scaled m d r → counted_of r ≡ counted_of (m * 10 ^ d)
@@ -90,6 +136,8 @@ whole_below m p h = go (eqb (m % 10 ^ (12 - p)) 0) refl
 pub count_below : (m p : ℕ) → p ≤ 12 → m * 10 ^ p / 10 ^ 12 ≡ m / 10 ^ (12 - p)
 count_below m p h =
     rw (twelve p h) (mul-div-mul_right m (10 ^ (12 - p)) (ten_pos p))
+
+pub ruleset hundredths = (nat_tests, ten_pos, counted_scaled, converted, whole_above, count_above, whole_below, count_below)
 
 -- ---- how many digits
 
@@ -132,14 +180,17 @@ less_power a b h = go (ltb a b) refl
 pub size_most : (n z : ℕ) → 0 < n → n < 10 ^ z → size_of n ≤ z
 size_most n z h k = omega (arith, less_power (size_of n) (z + 1) (rw (ten_step z) (omega (arith, size_low n h))))
 
--- and z where it is not below 10 ^ (z - 1): no other number of digits does
-pub size_is : (n z : ℕ) → 10 ^ z ≤ n → n < 10 ^ (z + 1) → size_of n ≡ z + 1
-size_is n z h k = omega (arith, size_most n (z + 1) (omega (arith, ten_pos z)) k, less_power z (size_of n) (omega (arith, size_high n)))
+-- and z + 1 where it is from 10 ^ z to below ten times that: no other number of digits does
+pub size_is : (n z : ℕ) → 10 ^ z ≤ n → n < 10 * 10 ^ z → size_of n ≡ z + 1
+size_is n z h k =
+    omega (arith, size_most n (z + 1) (omega (arith, ten_pos z)) (rw (ten_step z) (omega arith)), less_power z (size_of n) (omega (arith, size_high n)))
 
 -- a size is not 0 exactly where its mantissa is not
 pub some_size : (m p : ℕ) → not (eqb m 0) ≡ ltb 0 (m * 10 ^ p)
 some_size zero p = sym (ap (ltb 0) (zero-mul (10 ^ p)))
 some_size (suc m) p = ap not (eqb-suc-zero m) ∙ sym (lt-ltb 0 (suc m * 10 ^ p) (units_pos (suc m) p (omega arith)))
+
+pub ruleset some_units = (nat_tests, units_pos, some_size)
 
 -- ---- two groups of digits as one
 

@@ -2,4 +2,5 @@
 pub mod Exact
 pub mod Form
 pub mod Number
+pub mod Digits
 pub mod Inner

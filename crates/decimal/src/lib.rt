@@ -3,9 +3,12 @@
 ghost use Rattle.std.specs.Prelude.{◌≡◌, ◌||◌, ◌+◌, ◌*◌, ◌^◌, ◌≤◌, ◌<◌, take, ltb};
 ghost use Rattle.buffer.specs.Byte.{leading, starts_with, numeral};
 ghost use Rattle.decimal.specs.Exact.{units, size_of, normal_of};
-ghost use Rattle.decimal.specs.Form.{whole, power_of, exponent_of, fraction_of, unsigned_of, scan_of, number_of};
+ghost use Rattle.decimal.specs.Form.{whole, power_of, exponent_of, fraction_of, unsigned_of, scan_of, refusal_of, number_of};
 ghost use Rattle.decimal.specs.Number.{below_of, counted_of, hundredths_of};
+ghost use Rattle.decimal.specs.Digits.{significant};
 ghost use Rattle.decimal.specs.Inner.{Scaled};
+
+use refusals::Refusal;
 
 // A number: mantissa * 10 ^ place, in 10^-14. A reader gives the canonical one of each value: a mantissa of six digits, the first not
 // zero, and place 0 to 18; zero is ZERO.
@@ -33,94 +36,44 @@ pub struct Exact {
     pub down: u8,
 }
 
-// A text of the form, with its value, or not of the form.
+// Why a text or a value is no number.
 #[derive(Clone, Copy)]
-pub enum Scan {
-    Of(Exact),
-    NoForm,
-}
-
-// What a reader of numbers answers.
-#[derive(Clone, Copy)]
-pub enum Parsed {
-    Value(Number),
+pub enum NumberError {
     Syntax,
     Range,
 }
 
-// ---- powers of ten and sizes
+impl From<NumberError> for Refusal {
+    ghost from_gives = { λ e r. r ≡ refusal_of e };
 
-// 10 ^ k.
-fn ten_to(k: u8) -> u64
-    requires { k ≤ 12 }
-    ensures { result ≡ 10 ^ k }
-{
-    let mut p: u64 = 1;
-    let mut i: u8 = 0;
-    while i < k {
-        p = p * 10;
-        i += 1;
+    fn from(e: NumberError) -> Refusal {
+        match e {
+            NumberError::Syntax => Refusal::Syntax,
+            NumberError::Range => Refusal::Range,
+        }
     }
-    p
-}
-
-// How many decimal digits n has.
-fn size_of(n: u32) -> u8
-    ensures { result ≡ size_of n }
-{
-    if n < 10 {
-        return 1;
-    }
-    if n < 100 {
-        return 2;
-    }
-    if n < 1000 {
-        return 3;
-    }
-    if n < 10000 {
-        return 4;
-    }
-    if n < 100000 {
-        return 5;
-    }
-    if n < 1000000 {
-        return 6;
-    }
-    if n < 10000000 {
-        return 7;
-    }
-    if n < 100000000 {
-        return 8;
-    }
-    if n < 1000000000 {
-        return 9;
-    }
-    10
 }
 
 // The canonical number of a value, or SYNTAX where it needs over six digits, or RANGE.
-pub fn normal(x: Exact) -> Parsed
+#[tactic(auto, using(std::proofs::lemmas::Bool::Decides::nat_tests, crate::proofs::Sizes::size_is), unfolding(crate::specs::Exact::normal_of, buffer::specs::First::pick))]
+pub fn normal(x: Exact) -> Result<Number, NumberError>
     ensures { result ≡ normal_of x }
 {
-    let digits = x.digits;
-    if digits == 0 {
-        return Parsed::Value(Number::ZERO);
+    if x.digits == 0 {
+        return Ok(Number::ZERO);
     }
-    let z = size_of(digits);
-    let p = ten_to(z);
-    let m = digits as u64 * 1000000;
+    let z = x.digits.ilog10() + 1;
+    let p = 10u64.pow(z);
+    let m = x.digits as u64 * 1000000;
     if m % p != 0 {
-        return Parsed::Syntax;
+        return Err(NumberError::Syntax);
     }
-    let top = z as u16 + 8 + x.up as u16;
-    let down = x.down as u16;
-    if top < down {
-        return Parsed::Range;
+    let top = z + 8 + x.up as u32;
+    let down = x.down as u32;
+    if top < down || down + 19 <= top {
+        return Err(NumberError::Range);
     }
-    if down + 19 <= top {
-        return Parsed::Range;
-    }
-    Parsed::Value(Number {
+    Ok(Number {
         negative: x.negative,
         mantissa: (m / p) as u32,
         place: (top - down) as u8,
@@ -130,121 +83,93 @@ pub fn normal(x: Exact) -> Parsed
 // ---- the reader
 
 // The number that the first n characters spell, which are digits.
+#[tactic(auto, using(crate::proofs::Laws::front_digits))]
 fn spelled(s: &[u8], n: usize) -> u32
     requires { (n ≤ 6) × (n ≤ leading s.now) }
     ensures value { result ≡ numeral (take n s.now) }
     ensures upper_bound { result < 10 ^ n }
 {
-    buffer::numeral_of(&s[..n])
+    let (front, _) = s.split_at(n);
+    buffer::numeral_of(front)
 }
 
 // The one or two digits of an exponent, to the end of the text.
-fn power(s: &[u8], x: Exact, below: bool) -> Scan
+#[tactic(auto, using(std::proofs::lemmas::Bool::Decides::nat_tests), unfolding(crate::specs::Form::power_of, buffer::specs::First::pick))]
+fn power(s: &[u8], x: Exact, below: bool) -> Option<Exact>
     requires { x.down ≤ 6 }
     ensures { result ≡ power_of s.now x below }
 {
     let n = buffer::count_digits(s);
-    if n < 1 {
-        return Scan::NoForm;
-    }
-    if 3 <= n {
-        return Scan::NoForm;
-    }
-    if n < s.len() {
-        return Scan::NoForm;
+    if n < 1 || 3 <= n || n < s.len() {
+        return None;
     }
     let p = spelled(s, n) as u8;
-    if below {
-        return Scan::Of(Exact {
-            negative: x.negative,
-            digits: x.digits,
+    Some(if below {
+        Exact {
             up: 0,
             down: x.down + p,
-        });
-    }
-    Scan::Of(Exact {
-        negative: x.negative,
-        digits: x.digits,
-        up: p,
-        down: x.down,
+            ..x
+        }
+    } else {
+        Exact { up: p, ..x }
     })
 }
 
-// Whether s starts with `e` or `E`.
-fn is_marked(s: &[u8]) -> bool
-    ensures { result ≡ (starts_with 101 s.now || starts_with 69 s.now) }
-{
-    if buffer::starts_with(s, b'e') {
-        return true;
-    }
-    buffer::starts_with(s, b'E')
-}
-
 // What follows the digits: nothing, or an exponent.
-fn exponent(s: &[u8], x: Exact) -> Scan
+#[tactic(auto, using(crate::proofs::Fronts::fronts), unfolding(crate::specs::Form::exponent_of, buffer::specs::First::pick, buffer::specs::Byte::starts_with))]
+fn exponent(s: &[u8], x: Exact) -> Option<Exact>
     requires { x.down ≤ 6 }
     ensures { result ≡ exponent_of s.now x }
 {
-    if s.len() == 0 {
-        return Scan::Of(x);
+    match s {
+        [] => Some(x),
+        [b'e' | b'E', t @ ..] => match t {
+            [b'-', t @ ..] => power(t, x, true),
+            _ => power(t, x, false),
+        },
+        _ => None,
     }
-    if !is_marked(s) {
-        return Scan::NoForm;
-    }
-    let t = buffer::rest(s, 1);
-    if buffer::starts_with(t, b'-') {
-        return power(buffer::rest(t, 1), x, true);
-    }
-    power(t, x, false)
 }
 
 // The value of a whole number with what follows it: nothing, or an exponent.
-pub fn read_exponent(negative: bool, digits: u32, s: &[u8]) -> Scan
+pub fn read_exponent(negative: bool, digits: u32, s: &[u8]) -> Option<Exact>
     ensures { result ≡ exponent_of s.now (whole negative digits) }
 {
-    exponent(
-        s,
-        Exact {
-            negative,
-            digits,
-            up: 0,
-            down: 0,
-        },
-    )
+    let x = Exact {
+        negative,
+        digits,
+        up: 0,
+        down: 0,
+    };
+    exponent(s, x)
 }
 
 // What follows the point: x has the n digits that stand before it.
-fn fraction(s: &[u8], x: Exact, n: usize) -> Scan
+#[tactic(auto, using(std::proofs::lemmas::Bool::Decides::nat_tests, crate::proofs::Sizes::joined_six, buffer::proofs::Laws::leading_le), unfolding(crate::specs::Form::fraction_of, buffer::specs::First::pick))]
+fn fraction(s: &[u8], x: Exact, n: usize) -> Option<Exact>
     requires { (n ≤ 6) × (x.digits < 10 ^ n) }
     ensures { result ≡ fraction_of s.now x n }
 {
     let k = buffer::count_digits(s);
-    if k < 1 {
-        return Scan::NoForm;
+    if k < 1 || 7 <= n + k {
+        return None;
     }
-    if 7 <= n + k {
-        return Scan::NoForm;
-    }
-    let shift = ten_to(k as u8);
-    let value = spelled(s, k) as u64;
     let all = Exact {
-        negative: x.negative,
-        digits: (x.digits as u64 * shift + value) as u32,
+        digits: x.digits * 10u32.pow(k as u32) + spelled(s, k),
         up: 0,
         down: k as u8,
+        ..x
     };
     exponent(buffer::rest(s, k), all)
 }
 
-fn unsigned(s: &[u8], negative: bool) -> Scan
+#[tactic(auto, using(crate::proofs::Fronts::fronts), unfolding(crate::specs::Form::unsigned_of, buffer::specs::First::pick, buffer::specs::Byte::starts_with))]
+fn unsigned(s: &[u8], negative: bool) -> Option<Exact>
     ensures { result ≡ unsigned_of s.now negative }
 {
     let n = buffer::count_digits(s);
-    if n < 1 {
-        return Scan::NoForm;
-    }
-    if 7 <= n {
-        return Scan::NoForm;
+    if n < 1 || 7 <= n {
+        return None;
     }
     let x = Exact {
         negative,
@@ -253,109 +178,87 @@ fn unsigned(s: &[u8], negative: bool) -> Scan
         down: 0,
     };
     let t = buffer::rest(s, n);
-    if buffer::starts_with(t, b'.') {
-        return fraction(buffer::rest(t, 1), x, n);
+    match t {
+        [b'.', f @ ..] => fraction(f, x, n),
+        _ => exponent(t, x),
     }
-    exponent(t, x)
 }
 
 // The exact value of a text of the form.
-pub fn read_exact(s: &[u8]) -> Scan
+#[tactic(auto, using(crate::proofs::Fronts::fronts), unfolding(crate::specs::Form::scan_of, buffer::specs::First::pick, buffer::specs::Byte::starts_with))]
+pub fn read_exact(s: &[u8]) -> Option<Exact>
     ensures { result ≡ scan_of s.now }
 {
-    if buffer::starts_with(s, b'-') {
-        return unsigned(buffer::rest(s, 1), true);
+    match s {
+        [b'-', t @ ..] => unsigned(t, true),
+        _ => unsigned(s, false),
     }
-    unsigned(s, false)
 }
 
 // A text as a number, SYNTAX or RANGE.
-pub fn read_number(s: &[u8]) -> Parsed
+#[tactic(auto, unfolding(crate::specs::Form::number_of, crate::specs::Form::parsed_of))]
+pub fn read_number(s: &[u8]) -> Result<Number, NumberError>
     ensures { result ≡ number_of s.now }
 {
-    match read_exact(s) {
-        Scan::NoForm => Parsed::Syntax,
-        Scan::Of(x) => normal(x),
+    normal(read_exact(s).ok_or(NumberError::Syntax)?)
+}
+
+// How many characters there are up to the last that is not `0`.
+pub fn count_significant(s: &[u8]) -> usize
+    ensures { result ≡ significant s.now }
+{
+    match s.iter().rposition(|b| *b != b'0') {
+        Some(i) => i + 1,
+        None => 0,
     }
 }
 
 // ---- by value
 
 // m * 10 ^ d, or where that is beyond a u32 some number that is too.
+#[tactic(auto, using(crate::proofs::Sizes::saturates))]
 fn scaled(m: u32, d: u8) -> u64
     ensures { Scaled m d result }
 {
-    if m == 0 {
-        return 0;
-    }
-    if 10 <= d {
-        return 10000000000;
-    }
-    m as u64 * ten_to(d)
+    (m as u64).saturating_mul(10u64.saturating_pow(d as u32))
 }
 
-// Whether a's size is below b's.
+// Whether a's size is below b's: both are taken at the smaller place.
+#[tactic(auto, using(crate::proofs::Sizes::less_at_min), unfolding(crate::specs::Exact::units))]
 fn is_less(a: Number, b: Number) -> bool
     ensures { result ≡ ltb (units a) (units b) }
 {
-    let p = a.place;
-    let q = b.place;
-    if p <= q {
-        return (a.mantissa as u64) < scaled(b.mantissa, q - p);
-    }
-    scaled(a.mantissa, p - q) < b.mantissa as u64
+    let p = a.place.min(b.place);
+    scaled(a.mantissa, a.place - p) < scaled(b.mantissa, b.place - p)
 }
 
 impl Number {
-    // Whether this value is below the other.
+    // Whether this value is below the other. (No derived order: it goes by value, and two numbers that are not canonical may have one value.)
+    #[tactic(auto, using(crate::proofs::Sizes::some_units), unfolding(crate::specs::Number::below_of, crate::specs::Number::plus, crate::specs::Number::minus, crate::specs::Exact::units))]
     pub fn is_below(self, other: Number) -> bool
         ensures { result ≡ below_of self other }
     {
-        if self.negative {
-            if other.negative {
-                return is_less(other, self);
-            }
-            if self.mantissa == 0 {
-                return other.mantissa != 0;
-            }
-            return true;
+        match (self.negative, other.negative) {
+            (false, false) => is_less(self, other),
+            (false, true) => false,
+            (true, false) => self.mantissa != 0 || other.mantissa != 0,
+            (true, true) => is_less(other, self),
         }
-        if other.negative {
-            return false;
-        }
-        is_less(self, other)
     }
-}
-
-// A size in hundredths, or another.
-#[derive(Clone, Copy)]
-pub enum Hundredths {
-    Whole(u32),
-    Other,
-}
-
-// A count of hundredths, where it fits a u32.
-fn counted(v: u64) -> Hundredths
-    ensures { result ≡ counted_of v }
-{
-    if 4294967296 <= v {
-        return Hundredths::Other;
-    }
-    Hundredths::Whole(v as u32)
 }
 
 // How many hundredths a number's size is, where they are whole and fit a u32.
-pub fn in_hundredths(n: Number) -> Hundredths
+#[tactic(auto, using(crate::proofs::Sizes::hundredths), unfolding(crate::specs::Number::hundredths_of, crate::specs::Exact::units, buffer::specs::First::pick))]
+pub fn in_hundredths(n: Number) -> Option<u32>
     ensures { result ≡ hundredths_of n }
 {
-    let p = n.place;
-    if 12 <= p {
-        return counted(scaled(n.mantissa, p - 12));
+    if 12 <= n.place {
+        return u32::try_from(scaled(n.mantissa, n.place - 12)).ok();
     }
-    let q = ten_to(12 - p);
+    let q = 10u64.pow((12 - n.place) as u32);
     let m = n.mantissa as u64;
     if m % q != 0 {
-        return Hundredths::Other;
+        return None;
     }
-    counted(m / q)
+    u32::try_from(m / q).ok()
 }

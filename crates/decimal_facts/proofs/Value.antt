@@ -4,13 +4,14 @@ use mathlib.Core.Logic.{◌↔◌}
 use Prim.Native.Nat.{◌+◌, ◌^◌, ◌<◌}
 use native.Mathlib.Omega.{arith}
 use borrow.Author.Tests.{eqb-true}
+use Rattle.std.specs.Prelude.{Err}
 use Rattle.decimal.specs.Exact.{units, zero_number, normal_of}
 use Rattle.decimal.specs.Number.{plus, minus, same_value}
 use Rattle.decimal.specs.declared.Exact.{Exact}
-use Rattle.decimal.specs.declared.Parsed.TheVariants.{Syntax}
 use Rattle.decimal_facts.specs.Canonical.{SixDigits, ParsesAs}
 use Rattle.decimal_facts.proofs.Lemmas.Rows.{rows, signs, canonical_same, answered_exactly, exactly_answered, range_outside, outside_range, syntax_six, six_syntax, zero_exactly, exactly_none, hundredths_of_lem, counted}
 use Rattle.decimal_facts.specs.Theorems.{ExactValue, OutsideRange, IsZero, Same, HundredthsExactly}
+use Rattle.decimal.specs.declared.NumberError.{NumberError}
 
 -- the whole of `normal_of`: zero; or the canonical number of the value; or RANGE; or, where the value needs over six digits, SYNTAX
 pub answers : (x : Exact) → ParsesAs x (normal_of x)
@@ -25,11 +26,11 @@ pub range : OutsideRange
 range x = (range_outside x (normal_of x) (answers x), λ w. outside_range x (normal_of x) w.0 w.1 (answers x) w.2)
 
 -- and SYNTAX exactly where six digits are not enough
-pub syntax : (x : Exact) → (normal_of x ≡ Syntax) ↔ ((0 < x.digits) × (SixDigits x.digits → ⊥))
+pub syntax : (x : Exact) → (normal_of x ≡ Err NumberError.Syntax) ↔ ((0 < x.digits) × (SixDigits x.digits → ⊥))
 syntax x = (syntax_six x (normal_of x) (answers x), λ w. six_syntax x (normal_of x) w.0 (answers x) w.1)
 
 -- so never where the digits are at most six
-pub no_syntax : (x : Exact) → x.digits < 10 ^ 6 → normal_of x ≡ Syntax → ⊥
+pub no_syntax : (x : Exact) → x.digits < 10 ^ 6 → normal_of x ≡ Err NumberError.Syntax → ⊥
 no_syntax x h e = ((syntax x).0 e).1 (x.digits, 0, h, omega arith)
 
 -- "`-0` is zero.": zero is answered exactly where the digits are 0, whatever the sign and the power of ten

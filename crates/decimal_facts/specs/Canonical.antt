@@ -1,11 +1,10 @@
 -- Document 01, "Decimal numbers": canonical numbers, and which values have one.
-use Rattle.std.specs.Prelude.{◌≡◌, ◌⊎◌, ℕ, ◌+◌, ◌*◌, ◌^◌, ◌<◌, ◌≤◌, List, []}
+use Rattle.std.specs.Prelude.{◌≡◌, ◌⊎◌, ℕ, ◌+◌, ◌*◌, ◌^◌, ◌<◌, ◌≤◌, List, [], Err, Ok, Result}
 use Rattle.decimal.specs.Exact.{units, zero_number}
 use Rattle.decimal_text.specs.Written.{written_of}
 use Rattle.decimal.specs.declared.Number.{Number}
 use Rattle.decimal.specs.declared.Exact.{Exact}
-use Rattle.decimal.specs.declared.Parsed.{Parsed}
-use Rattle.decimal.specs.declared.Parsed.TheVariants.{Value, Syntax, Range}
+use Rattle.decimal.specs.declared.NumberError.{NumberError}
 
 -- six digits, the first not zero, and that one "at a place from 10^-9", which is 0, "to 10^9", which is 18
 pub record Full (n : Number) : Type 0 where
@@ -40,14 +39,14 @@ abbrev pub SixDigits : ℕ → Type 0
 SixDigits d = (m : ℕ) × (k : ℕ) × (m < 10 ^ 6) × (d ≡ m * 10 ^ k)
 
 -- what is answered for x, and what is then known of x
-pub data ParsesAs (x : Exact) : Parsed → Type 0 where
-  nothing : x.digits ≡ 0 → ParsesAs x (Value zero_number)
-  number : (n : Number) → 0 < x.digits → Exactly x n → ParsesAs x (Value n)
-  outside : 0 < x.digits → SixDigits x.digits → TooSmall x ⊎ TooLarge x → ParsesAs x Range
-  uneven : 0 < x.digits → (SixDigits x.digits → ⊥) → ParsesAs x Syntax
+pub data ParsesAs (x : Exact) : Result Number NumberError → Type 0 where
+  nothing : x.digits ≡ 0 → ParsesAs x (Ok zero_number)
+  number : (n : Number) → 0 < x.digits → Exactly x n → ParsesAs x (Ok n)
+  outside : 0 < x.digits → SixDigits x.digits → TooSmall x ⊎ TooLarge x → ParsesAs x (Err NumberError.Range)
+  uneven : 0 < x.digits → (SixDigits x.digits → ⊥) → ParsesAs x (Err NumberError.Syntax)
 
 -- what a text is sent as, once read
-abbrev pub sent_of : Parsed → List ℕ
-sent_of (Value n) = written_of n
-sent_of Syntax = []
-sent_of Range = []
+abbrev pub sent_of : Result Number NumberError → List ℕ
+sent_of (Ok n) = written_of n
+sent_of (Err NumberError.Syntax) = []
+sent_of (Err NumberError.Range) = []

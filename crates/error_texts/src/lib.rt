@@ -15,17 +15,18 @@ pub enum ErrorText {
     Error1,
 }
 
-// The six bytes of an error text.
+// The six bytes of an error text. (No Display: they are sent as bytes.)
+#[tactic(auto, unfolding(crate::specs::Texts::error_bytes))]
 pub fn error_bytes(e: ErrorText) -> [u8; 6]
     ensures { result ≡ error_bytes e }
 {
     match e {
-        ErrorText::Length => [b'L', b'E', b'N', b'G', b'T', b'H'],
-        ErrorText::Logic => [b'_', b'L', b'O', b'G', b'I', b'C'],
-        ErrorText::NoDef => [b'N', b'O', b'_', b'D', b'E', b'F'],
-        ErrorText::Syntax => [b'S', b'Y', b'N', b'T', b'A', b'X'],
-        ErrorText::Range => [b'_', b'R', b'A', b'N', b'G', b'E'],
-        ErrorText::Error1 => [b'E', b'R', b'R', b'O', b'R', b'1'],
+        ErrorText::Length => *b"LENGTH",
+        ErrorText::Logic => *b"_LOGIC",
+        ErrorText::NoDef => *b"NO_DEF",
+        ErrorText::Syntax => *b"SYNTAX",
+        ErrorText::Range => *b"_RANGE",
+        ErrorText::Error1 => *b"ERROR1",
     }
 }
 
@@ -33,22 +34,20 @@ pub fn error_bytes(e: ErrorText) -> [u8; 6]
 pub fn is_error_text(s: &[u8], e: ErrorText) -> bool
     ensures { result ≡ same_text s.now (error_bytes e) }
 {
-    let text = error_bytes(e);
-    buffer::is_same(s, &text)
+    buffer::is_same(s, &error_bytes(e))
 }
 
-// The error text of an answer number from 6 to 13.
+// The error text of an answer number from 6 to 13. (No TryFrom: it is total, and any other number has the last text.)
+#[tactic(auto, unfolding(crate::specs::Texts::error_of, buffer::specs::First::pick))]
 pub fn error_of(number: u8) -> ErrorText
     ensures { result ≡ error_of number }
 {
     match number {
         6 => ErrorText::Length,
-        7 => ErrorText::Logic,
+        7 | 9 | 12 => ErrorText::Logic,
         8 => ErrorText::NoDef,
-        9 => ErrorText::Logic,
         10 => ErrorText::Syntax,
         11 => ErrorText::Range,
-        12 => ErrorText::Logic,
         _ => ErrorText::Error1,
     }
 }

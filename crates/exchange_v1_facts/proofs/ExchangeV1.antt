@@ -7,6 +7,7 @@ use Prim.Native.Nat.{ℕ, ◌+◌, ◌/◌, ◌≤◌}
 use native.Mathlib.Omega.{arith}
 use borrow.Author.Tests.{eq-eqb, eqb-true, eqb-false, le-ltb}
 use lib.Dec.{eqb}
+use Rattle.std.specs.Prelude.{Ok, Result}
 use Rattle.buffer.specs.First.{pick}
 use Rattle.buffer.specs.Byte.{at, within, every, same_text}
 use Rattle.buffer.proofs.Laws.{within_in}
@@ -23,15 +24,12 @@ use Rattle.readings.specs.Measure.{measure_text}
 use Rattle.requests.specs.AskV1.{ask_v1}
 use Rattle.requests.specs.declared.RequestV1.{RequestV1}
 use Rattle.requests.specs.declared.RequestV1.TheVariants.{Measure, ReadFactor, Unlock, SetFactor, ReadUnit, SetUnit}
-use Rattle.requests.specs.declared.AskV1.TheVariants.{Asks}
 use Rattle.request_texts.specs.RequestText.{digits6, letter_v1, data_v1, head_for_v1}
 use Rattle.settings.specs.Units.{unit_code}
 use Rattle.printed_facts.proofs.Sendable as printed
 use Rattle.printed_facts.proofs.Sendable as printed
 use Rattle.replies_v1.specs.ReplyV1.{value_v1, read_v1}
 use Rattle.replies_v1.specs.declared.ReplyV1.TheVariants.{Reads, Done, Error}
-use Rattle.replies_v1.specs.declared.ReadV1.{ReadV1}
-use Rattle.replies_v1.specs.declared.ReadV1.TheVariants.{Read}
 use Rattle.gauge_rules.specs.State.{State}
 use Rattle.gauge_rules_v1.specs.RulesV1.{factor_number, grant_v1, text_v1, repeats}
 use Rattle.gauge_table.specs.Reply.{error_v1, accepted_v1, reply_of}
@@ -44,11 +42,14 @@ use Rattle.exchange_v1_facts.specs.HeldV1.{rounded_v1, held_v1, error_text_v1, e
 use Rattle.exchange_v1_facts.specs.Theorems.{NearestHeld, AnswerReadV1}
 use Rattle.exchange_v1_facts.proofs.Lemmas.Rows.{Seen, seen, frame_read, digits_read}
 use Rattle.exchange_v1_facts.proofs.Lemmas.Values.{six_are, echo_held, factor_held, unit_held, fault_held, measure_digits, pressure_held_lem}
+use Rattle.refusals.specs.declared.Refusal.{Refusal}
+use Rattle.replies_v1.specs.declared.ReplyV1.{ReplyV1}
+use Rattle.decimal.specs.declared.Number.{Number}
 
 -- ---- a set's reply
 
 -- "Set replies repeat the request.": the repeated request is read as done
-pub echo_read_v1 : (a : ℕ) (r : RequestV1) → within 1 999 a ≡ true → repeats r ≡ true → read_v1 a r (frame_v1 (head_for_v1 a r) (data_v1 r)) ≡ Read Done
+pub echo_read_v1 : (a : ℕ) (r : RequestV1) → within 1 999 a ≡ true → repeats r ≡ true → read_v1 a r (frame_v1 (head_for_v1 a r) (data_v1 r)) ≡ Ok Done
 unfolding repeats data_v1 value_v1 every within
 echo_read_v1 a Measure i e = absurd (false≢true e)
 echo_read_v1 a ReadFactor i e = absurd (false≢true e)
@@ -61,24 +62,24 @@ echo_read_v1 a (SetUnit u) i e = digits_read a (SetUnit u) (digits6 (unit_code u
 
 module _ (a : ℕ) (r : RequestV1) (i : within 1 999 a ≡ true) where
   -- "V1's 13 sends `M` with the data `1`."
-  fault_read : r ≡ Measure → read_v1 a r (error_v1 13 (head_for_v1 a r)) ≡ Read (Error Error1)
+  fault_read : r ≡ Measure → read_v1 a r (error_v1 13 (head_for_v1 a r)) ≡ Ok (Error Error1)
   unfolding error_head_v1 error_letter_v1 error_data_v1 value_v1 every within letter_v1 pick
   fault_read e = rw e (digits_read a Measure (49 ∷ []) i refl (omega arith) ∙ fault_held)
 
   -- `NO_DEF` for letter and data, whatever was asked
-  no_def_read : read_v1 a r (error_v1 8 (head_for_v1 a r)) ≡ Read (Error NoDef)
+  no_def_read : read_v1 a r (error_v1 8 (head_for_v1 a r)) ≡ Ok (Error NoDef)
   unfolding error_head_v1 error_letter_v1 error_data_v1 error_bytes is_letter every within same_text pick
   no_def_read = frame_read a 78 r (79 ∷ 95 ∷ 68 ∷ 69 ∷ 70 ∷ []) (record { address_in = i; letter_in = refl; bytes_in = refl; few = omega arith })
 
   -- the letter and `_RANGE`
-  range_read : read_v1 a r (error_v1 11 (head_for_v1 a r)) ≡ Read (Error Range)
+  range_read : read_v1 a r (error_v1 11 (head_for_v1 a r)) ≡ Ok (Error Range)
   unfolding error_head_v1 error_letter_v1 error_data_v1 error_bytes every within same_text pick
   range_read =
       frame_read a (letter_v1 r) r (95 ∷ 82 ∷ 65 ∷ 78 ∷ 71 ∷ 69 ∷ []) (record { address_in = i; letter_in = printed.letter_in r; bytes_in = refl; few = omega arith })
       ∙ rw (eq-eqb (letter_v1 r) (letter_v1 r) refl)
 
   -- any other number: the letter and `_LOGIC`
-  logic_read : (k : ℕ) → eqb k 13 ≡ false → eqb k 11 ≡ false → eqb k 8 ≡ false → read_v1 a r (error_v1 k (head_for_v1 a r)) ≡ Read (Error Logic)
+  logic_read : (k : ℕ) → eqb k 13 ≡ false → eqb k 11 ≡ false → eqb k 8 ≡ false → read_v1 a r (error_v1 k (head_for_v1 a r)) ≡ Ok (Error Logic)
   unfolding error_head_v1 error_letter_v1 error_data_v1 error_bytes every within same_text pick
   logic_read k p q z =
       rw (p, q, z)
@@ -86,7 +87,7 @@ module _ (a : ℕ) (r : RequestV1) (i : within 1 999 a ≡ true) where
       ∙ rw (eq-eqb (letter_v1 r) (letter_v1 r) refl))
 
   -- an error's reply is read as its error, whatever the number; 13 answers a measurement only
-  pub error_read_v1 : (k : ℕ) → (k ≡ 13 → r ≡ Measure) → read_v1 a r (error_v1 k (head_for_v1 a r)) ≡ Read (Error (error_text_v1 k))
+  pub error_read_v1 : (k : ℕ) → (k ≡ 13 → r ≡ Measure) → read_v1 a r (error_v1 k (head_for_v1 a r)) ≡ Ok (Error (error_text_v1 k))
   unfolding error_text_v1
   error_read_v1 k m =
       each Reads-as (eqb k 13) _ _ (λ e. let z = eqb-true k 13 e in rw z (fault_read (m z)))
@@ -94,7 +95,7 @@ module _ (a : ℕ) (r : RequestV1) (i : within 1 999 a ≡ true) where
       (λ q. each Reads-as (eqb k 8) _ _ (λ e. rw (eqb-true k 8 e) no_def_read) (λ z. logic_read k p q z)))
     where
       Reads-as : ErrorText → Type 0
-      Reads-as t = read_v1 a r (error_v1 k (head_for_v1 a r)) ≡ Read (Error t)
+      Reads-as t = read_v1 a r (error_v1 k (head_for_v1 a r)) ≡ Ok (Error t)
 
 -- ---- values
 
@@ -112,7 +113,7 @@ nearest_held n f = (q, record { low = omega arith; high = omega arith }, go (eqb
     go false h = inl (omega (arith, eqb-false q 10000 h, f.high), rw h)
 
 -- the reply to a request that reads is read as what the gauge holds
-pub reply_read_v1 : (g : State) (a : ℕ) (r : RequestV1) → SoundState g → within 1 999 a ≡ true → repeats r ≡ false → read_v1 a r (frame_v1 (head_for_v1 a r) (text_v1 g r)) ≡ Read (held_v1 g r)
+pub reply_read_v1 : (g : State) (a : ℕ) (r : RequestV1) → SoundState g → within 1 999 a ≡ true → repeats r ≡ false → read_v1 a r (frame_v1 (head_for_v1 a r) (text_v1 g r)) ≡ Ok (held_v1 g r)
 unfolding repeats text_v1 held_v1 value_v1
 reply_read_v1 g a Measure f i e =
     let d = measure_digits g.readings.p0 in
@@ -159,8 +160,8 @@ module _
     (own : a ≡ g.settings.address)
     (enough : 64 ≤ room)
     (sent : s ≡ frame_v1 (head_for_v1 a r) (data_v1 r))
-    (framed : frame_of s ≡ V1 (head_for_v1 a r))
-    (asked : ask_v1 (letter_v1 r) (data_from 4 s) ≡ Asks r)
+    (framed : frame_of s ≡ Ok (V1 (head_for_v1 a r)))
+    (asked : ask_v1 (letter_v1 r) (data_from 4 s) ≡ Ok r)
   where
     inside : within 1 999 a ≡ true
     inside = let h = sound.settings.address in within_in 1 999 a (omega (arith, own, h.0)) (omega (arith, own, h.1))
@@ -168,7 +169,7 @@ module _
     was-seen : Seen a (letter_v1 r) s
     was-seen = seen a (letter_v1 r) s framed
 
-    asks : ask_v1 (at s 3) (data_from 4 s) ≡ Asks r
+    asks : ask_v1 (at s 3) (data_from 4 s) ≡ Ok r
     asks = rw was-seen.letter asked
 
     number_is : number_of g room s ≡ grant_v1 g r
@@ -189,9 +190,9 @@ module _
     unfolding reply_of pick
     refused e = rw ((grant_number g r).0, was-seen.letter_in, e, head_is)
 
-    accepted_read : read_v1 a r (pick (repeats r) s (frame_v1 (head_for_v1 a r) (text_v1 g r))) ≡ Read (held_v1 g r)
+    accepted_read : read_v1 a r (pick (repeats r) s (frame_v1 (head_for_v1 a r) (text_v1 g r))) ≡ Ok (held_v1 g r)
     accepted_read =
-        each (λ (t : List ℕ). read_v1 a r t ≡ Read (held_v1 g r)) (repeats r) _ _
+        each (λ (t : List ℕ). read_v1 a r t ≡ Ok (held_v1 g r)) (repeats r) _ _
         (λ e. rw (sent, done_held g r e) (echo_read_v1 a r inside e))
         (λ e. reply_read_v1 g a r sound inside e)
 
@@ -200,6 +201,6 @@ pub answer_read_v1 : AnswerReadV1
 unfolding answer_of expected_v1
 answer_read_v1 g room a r s sound own enough sent framed asked =
     rw (number_is g room a r s sound own enough sent framed asked)
-    (each (λ (x : ReadV1). read_v1 a r (reply_of g s (grant_v1 g r)) ≡ x) (eqb (grant_v1 g r) 0) _ _
+    (each (λ (x : Result ReplyV1 Refusal). read_v1 a r (reply_of g s (grant_v1 g r)) ≡ x) (eqb (grant_v1 g r) 0) _ _
     (λ e. rw (accepted g room a r s sound own enough sent framed asked e) (accepted_read g room a r s sound own enough sent framed asked))
     (λ e. rw (refused g room a r s sound own enough sent framed asked e) (error_read_v1 a r (inside g room a r s sound own enough sent framed asked) (grant_v1 g r) (grant_number g r).1)))

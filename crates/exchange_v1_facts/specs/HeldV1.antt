@@ -1,5 +1,5 @@
 -- Document 01, "V1 on the same settings": what the gauge holds for a V1 request, and what the master is to read of its answer.
-use Rattle.std.specs.Prelude.{[], ◌∷◌, ℕ, ◌+◌, ◌/◌, eqb}
+use Rattle.std.specs.Prelude.{[], ◌∷◌, ℕ, ◌+◌, ◌/◌, eqb, Ok, Result}
 use Rattle.buffer.specs.First.{◌⇒◌, first, pick}
 use Rattle.error_texts.specs.declared.ErrorText.{ErrorText}
 use Rattle.error_texts.specs.declared.ErrorText.TheVariants.{Logic, NoDef, Range, Error1}
@@ -10,10 +10,9 @@ use Rattle.requests.specs.declared.RequestV1.{RequestV1}
 use Rattle.requests.specs.declared.RequestV1.TheVariants.{Measure, ReadFactor, Unlock, SetFactor, ReadUnit, SetUnit}
 use Rattle.replies_v1.specs.declared.ReplyV1.{ReplyV1}
 use Rattle.replies_v1.specs.declared.ReplyV1.TheVariants.{Reads, Factor, Unit, Done, Error}
-use Rattle.replies_v1.specs.declared.ReadV1.{ReadV1}
-use Rattle.replies_v1.specs.declared.ReadV1.TheVariants.{Read}
 use Rattle.gauge_rules.specs.State.{State}
 use Rattle.gauge_rules_v1.specs.RulesV1.{grant_v1}
+use Rattle.refusals.specs.declared.Refusal.{Refusal}
 
 -- a measured pressure as V1 tells it: q are its hundreds, "rounded half up to four digits", with "exponent plus 20", where place 9 is the exponent 0.
 -- A carry into a fifth digit makes q 10000: that is 1000, with the exponent one higher.
@@ -43,5 +42,5 @@ unfoldable pub error_text_v1 : ℕ → ErrorText
 error_text_v1 k = first (eqb k 13 ⇒ Error1 ∷ eqb k 11 ⇒ Range ∷ eqb k 8 ⇒ NoDef ∷ []) Logic
 
 -- what the master is to read: what the gauge holds, where it accepts the request, and otherwise its error
-unfoldable pub expected_v1 : State → RequestV1 → ReadV1
-expected_v1 g r = pick (eqb (grant_v1 g r) 0) (Read (held_v1 g r)) (Read (Error (error_text_v1 (grant_v1 g r))))
+unfoldable pub expected_v1 : State → RequestV1 → Result ReplyV1 Refusal
+expected_v1 g r = pick (eqb (grant_v1 g r) 0) (Ok (held_v1 g r)) (Ok (Error (error_text_v1 (grant_v1 g r))))

@@ -1,5 +1,5 @@
 -- What is proved here, each statement as a type; proofs/ has the proofs.
-use Rattle.std.specs.Prelude.{◌≡◌, List, ◌⊎◌, ℕ, ◌+◌, ◌≤◌}
+use Rattle.std.specs.Prelude.{◌≡◌, List, ◌⊎◌, ℕ, ◌+◌, ◌≤◌, Ok}
 use Rattle.frames.specs.Frame.{data_from, frame_of}
 use Rattle.frames.specs.declared.Frame.TheVariants.{V1}
 use Rattle.frame_writer.specs.Written.{frame_v1}
@@ -11,11 +11,9 @@ use Rattle.readings_facts.specs.HalfUp.{Nearest}
 use Rattle.requests.specs.AskV1.{ask_v1}
 use Rattle.requests.specs.declared.RequestV1.{RequestV1}
 use Rattle.requests.specs.declared.RequestV1.TheVariants.{Measure, ReadFactor, SetFactor, ReadUnit, SetUnit}
-use Rattle.requests.specs.declared.AskV1.TheVariants.{Asks}
 use Rattle.request_texts.specs.RequestText.{letter_v1, data_v1, head_for_v1}
 use Rattle.replies_v1.specs.ReplyV1.{read_v1}
 use Rattle.replies_v1.specs.declared.ReplyV1.TheVariants.{Reads, Factor, Unit, Done, Error}
-use Rattle.replies_v1.specs.declared.ReadV1.TheVariants.{Read}
 use Rattle.sources.specs.declared.Profile.TheVariants.{Standard}
 use Rattle.settings.specs.Limits.{limits_of}
 use Rattle.gauge_rules.specs.State.{State, fresh}
@@ -34,7 +32,7 @@ NearestHeld = (n : Number) → Full n
 -- and read again: the value, or the error, that the gauge holds
 abbrev pub AnswerReadV1 : Type 0
 AnswerReadV1 = (g : State) (room a : ℕ) (r : RequestV1) (s : List ℕ) → SoundState g → a ≡ g.settings.address → 64 ≤ room
-    → s ≡ frame_v1 (head_for_v1 a r) (data_v1 r) → frame_of s ≡ V1 (head_for_v1 a r) → ask_v1 (letter_v1 r) (data_from 4 s) ≡ Asks r
+    → s ≡ frame_v1 (head_for_v1 a r) (data_v1 r) → frame_of s ≡ Ok (V1 (head_for_v1 a r)) → ask_v1 (letter_v1 r) (data_from 4 s) ≡ Ok r
     → read_v1 a r (answer_of g room s).reply ≡ expected_v1 g r
 
 -- ---- worked cases
@@ -50,12 +48,12 @@ RoundedCases = (rounded_v1 (number 123449 9) ≡ Reads 1234 20)
 
 -- a gauge at the start: 1 mbar, the factor 1.00, mbar, and locked
 abbrev pub StartCases : Type 0
-StartCases = (expected_v1 (fresh (limits_of Standard)) Measure ≡ Read (Reads 1000 20))
-    × (expected_v1 (fresh (limits_of Standard)) ReadFactor ≡ Read (Factor 100))
-    × (expected_v1 (fresh (limits_of Standard)) ReadUnit ≡ Read (Unit Mbar))
-    × (expected_v1 (fresh (limits_of Standard)) (SetFactor 100) ≡ Read (Error Logic))
-    × (expected_v1 (fresh (limits_of Standard)) (SetUnit Torr) ≡ Read Done)
+StartCases = (expected_v1 (fresh (limits_of Standard)) Measure ≡ Ok (Reads 1000 20))
+    × (expected_v1 (fresh (limits_of Standard)) ReadFactor ≡ Ok (Factor 100))
+    × (expected_v1 (fresh (limits_of Standard)) ReadUnit ≡ Ok (Unit Mbar))
+    × (expected_v1 (fresh (limits_of Standard)) (SetFactor 100) ≡ Ok (Error Logic))
+    × (expected_v1 (fresh (limits_of Standard)) (SetUnit Torr) ≡ Ok Done)
 
 -- `M` to address 1, the whole way
 abbrev pub WholeWay : Type 0
-WholeWay = read_v1 1 Measure (answer_of (fresh (limits_of Standard)) 64 asked).reply ≡ Read (Reads 1000 20)
+WholeWay = read_v1 1 Measure (answer_of (fresh (limits_of Standard)) 64 asked).reply ≡ Ok (Reads 1000 20)

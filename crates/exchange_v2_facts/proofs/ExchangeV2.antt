@@ -7,6 +7,7 @@ use Prim.Native.Nat.{ℕ, ◌≤◌}
 use native.Mathlib.Omega.{arith}
 use borrow.Author.Tests.{le-ltb, eqb-true}
 use lib.Dec.{eqb}
+use Rattle.std.specs.Prelude.{Ok}
 use Rattle.buffer.specs.First.{pick}
 use Rattle.buffer.specs.Byte.{within}
 use Rattle.buffer.proofs.Laws.{within_in}
@@ -31,12 +32,10 @@ use Rattle.requests.specs.declared.Command.{Command}
 use Rattle.requests.specs.declared.Command.TheVariants.{MV, T2, FN, FS, Of}
 use Rattle.requests.specs.declared.RequestV2.{RequestV2}
 use Rattle.requests.specs.declared.RequestV2.TheVariants as request
-use Rattle.requests.specs.declared.AskV2.TheVariants.{Asks}
 use Rattle.request_texts.specs.RequestText.{head_for}
 use Rattle.replies_v2_values.specs.Value.{pressure_reply, value_reply, value_list}
 use Rattle.replies_v2_values.specs.declared.ReplyV2.{ReplyV2}
 use Rattle.replies_v2_values.specs.declared.ReplyV2.TheVariants.{Measured, UnderRange, OverRange, Degrees, FilamentNumber, StatusNumber, Holds, Done, Error}
-use Rattle.replies_v2_values.specs.declared.ReadV2.TheVariants.{Read}
 use Rattle.replies_v2.specs.ReplyV2.{done_reply, data_reply, read_v2, beside, data_list, read_list}
 use Rattle.forms_facts.proofs.Lemmas.Lists.{at_most_entries}
 use Rattle.gauge_rules.specs.State.{State}
@@ -64,21 +63,21 @@ granted true b e = absurd (omega arith)
 granted false true e = absurd (omega arith)
 granted false false e = refl
 
-pressure_read_lem : (p : Pressure) → SoundPressure p → faulty_pressure p ≡ false → pressure_reply (pressure_text p) ≡ Read (held_pressure p)
+pressure_read_lem : (p : Pressure) → SoundPressure p → faulty_pressure p ≡ false → pressure_reply (pressure_text p) ≡ Ok (held_pressure p)
 unfolding pressure_text faulty_pressure held_pressure
 pressure_read_lem (pressure.Measured n) h e = measured_read n h.0 h.1
 pressure_read_lem pressure.UnderRange h e = below_read
 pressure_read_lem pressure.OverRange h e = above_read
 pressure_read_lem pressure.Faulty h e = absurd (let z : ◌≡◌ {A = ℕ} 0 1 = cc in omega arith)
 
-temperature_read : (limits : ProfileLimits) (t : Temperature) → SoundTemperature t → faulty_temperature t ≡ false → value_reply limits T2 (temperature_text t) ≡ Read (held_temperature t)
+temperature_read : (limits : ProfileLimits) (t : Temperature) → SoundTemperature t → faulty_temperature t ≡ false → value_reply limits T2 (temperature_text t) ≡ Ok (held_temperature t)
 unfolding temperature_text faulty_temperature held_temperature value_reply
 temperature_read limits (temperature.Degrees true h) k e = degrees_below_read h k.0 k.1
 temperature_read limits (temperature.Degrees false h) k e = degrees_read h k
 temperature_read limits temperature.Faulty k e = absurd (let z : ◌≡◌ {A = ℕ} 0 1 = cc in omega arith)
 
 module _ (g : State) (f : SoundState g) where
-  value_read : (c : Command) → reads_faulty g.readings (request.Read c) ≡ false → value_reply g.limits c (sent_text g c) ≡ Read (held_value g c)
+  value_read : (c : Command) → reads_faulty g.readings (request.Read c) ≡ false → value_reply g.limits c (sent_text g c) ≡ Ok (held_value g c)
   unfolding reads_faulty value_reply sent_text held_value
   value_read MV e = pressure_read_lem g.readings.p0 f.readings.p0 e
   value_read T2 e = temperature_read g.limits g.readings.t2 f.readings.t2 e
@@ -87,7 +86,7 @@ module _ (g : State) (f : SoundState g) where
   value_read (Of key) e = setting_read g.limits f.proper key g.settings f.settings
 
   -- the data of a reply to a granted request are read as what the gauge holds
-  data_read : (r : RequestV2) → grant_v2 g r ≡ 0 → data_reply g.limits r (text_v2 g r) ≡ Read (held_v2 g r)
+  data_read : (r : RequestV2) → grant_v2 g r ≡ 0 → data_reply g.limits r (text_v2 g r) ≡ Ok (held_v2 g r)
   unfolding grant_v2 data_reply done_reply text_v2 held_v2 pick
   data_read (request.Read c) e = value_read c (granted (changes_cathode (request.Read c) && eqb g.settings.control 1) (reads_faulty g.readings (request.Read c)) e)
   data_read (request.Restore c) e = refl
@@ -100,7 +99,7 @@ abbrev pub reply_v2 : State → ℕ → RequestV2 → List ℕ
 reply_v2 g a r = frame_v2 (answer_head (head_for a r) (answer_code r)) (text_v2 g r)
 
 -- an error reply is read as its error, whatever the request
-pub error_read_v2 : (limits : ProfileLimits) (a : ℕ) (r : RequestV2) (k : ℕ) → within 1 999 a ≡ true → read_v2 limits a r (error_v2 k (head_for a r)) ≡ Read (Error (error_of k))
+pub error_read_v2 : (limits : ProfileLimits) (a : ℕ) (r : RequestV2) (k : ℕ) → within 1 999 a ≡ true → read_v2 limits a r (error_v2 k (head_for a r)) ≡ Ok (Error (error_of k))
 error_read_v2 limits a r k i = error_read limits a r (error_of k) i
 
 -- and no sources stand beside it
@@ -109,7 +108,7 @@ unfolding read_list beside
 error_list_v2 limits a r k i = rw (error_read_v2 limits a r k i)
 
 -- nothing stands beside a value with no list
-beside_none : (x : ReplyV2) → beside (Read x) [] ≡ []
+beside_none : (x : ReplyV2) → beside (Ok x) [] ≡ []
 unfolding beside
 beside_none (Measured n) = refl
 beside_none UnderRange = refl
@@ -122,7 +121,7 @@ beside_none Done = refl
 beside_none (Error e) = refl
 
 module _ (g : State) (f : SoundState g) where
-  list_of : (c : Command) → beside (Read (held_value g c)) (value_list g.limits c (sent_text g c)) ≡ held_list_of g c
+  list_of : (c : Command) → beside (Ok (held_value g c)) (value_list g.limits c (sent_text g c)) ≡ held_list_of g c
   unfolding value_list held_list_of held_value sent_text list_in beside
   list_of MV = beside_none (held_pressure g.readings.p0)
   list_of T2 = beside_none (held_temperature g.readings.t2)
@@ -137,7 +136,7 @@ module _ (g : State) (f : SoundState g) where
   list_of (Of ST) = refl
   list_of (Of SM) = stream_list g.limits f.proper g.settings f.settings g.settings.streaming refl
 
-  data_list_lem : (r : RequestV2) → beside (Read (held_v2 g r)) (data_list g.limits r (text_v2 g r)) ≡ held_list_v2 g r
+  data_list_lem : (r : RequestV2) → beside (Ok (held_v2 g r)) (data_list g.limits r (text_v2 g r)) ≡ held_list_v2 g r
   unfolding held_v2 data_list text_v2 held_list_v2
   data_list_lem (request.Read c) = list_of c
   data_list_lem (request.Restore c) = beside_none Done
@@ -148,7 +147,7 @@ module _ (g : State) (a : ℕ) (r : RequestV2) (f : SoundState g) (i : within 1 
   reply_data_lem = accepted_read g.limits a r (text_v2 g r) i (text_printed g r) (omega (arith, text_v2_le g (omega (arith, at_most_entries g.limits f.proper g.settings.list f.settings.list, f.proper.few)) r))
 
   -- the reply to a granted request is read as what the gauge holds
-  pub reply_read_v2 : read_v2 g.limits a r (frame_v2 (answer_head (head_for a r) (answer_code r)) (text_v2 g r)) ≡ Read (held_v2 g r)
+  pub reply_read_v2 : read_v2 g.limits a r (frame_v2 (answer_head (head_for a r) (answer_code r)) (text_v2 g r)) ≡ Ok (held_v2 g r)
   reply_read_v2 = reply_data_lem.0 ∙ data_read g f r e
 
   -- with the gauge's sources beside a read of SM while lines are sent, and none beside any other
@@ -163,10 +162,10 @@ pub alike_same : (r : RequestV2) → Alike r r
 alike_same r = record { command = refl; access = refl }
 
 module _ (g : State) (room a : ℕ) (s : List ℕ) (x : RequestV2) (enough : 64 ≤ room) (here : a ≡ g.settings.address) (by : AskedBy g.limits a x s) where
-  framed : Tells s (V2 (head_for a x))
+  framed : Tells s (Ok (V2 (head_for a x)))
   framed = rw by.frame at (tells s)
 
-  asked : ask_v2 g.limits (head_v2 s) (data_from 8 s) ≡ Asks x
+  asked : ask_v2 g.limits (head_v2 s) (data_from 8 s) ≡ Ok x
   asked = rw framed.3 at by.asks
 
   this_address : other_address g s ≡ false
@@ -206,7 +205,7 @@ exchange_v2 g room a s x r f enough here by like = rw (reply_of_lem g room a s x
     i : within 1 999 a ≡ true
     i = address_in g room a s x r f enough here by like
 
-    go : (b : Bool) → eqb (grant_v2 g r) 0 ≡ b → read_v2 g.limits a r (pick b (reply_v2 g a r) (error_v2 (grant_v2 g r) (head_for a r))) ≡ pick b (Read (held_v2 g r)) (Read (Error (error_of (grant_v2 g r))))
+    go : (b : Bool) → eqb (grant_v2 g r) 0 ≡ b → read_v2 g.limits a r (pick b (reply_v2 g a r) (error_v2 (grant_v2 g r) (head_for a r))) ≡ pick b (Ok (held_v2 g r)) (Ok (Error (error_of (grant_v2 g r))))
     go true e = reply_read_v2 g a r f i (eqb-true (grant_v2 g r) 0 e)
     go false e = error_read_v2 g.limits a r (grant_v2 g r) i
 

@@ -1,6 +1,7 @@
 -- No bytes make the reply reader hand over a list that SM could not have.
 use mathlib.Core.List.{List}
 use Prim.Native.Nat.{ℕ}
+use Rattle.std.specs.Prelude.{Err, Ok, Result}
 use Rattle.frames.specs.Frame.{data_from}
 use Rattle.settings.specs.Limits.{ProfileLimits}
 use Rattle.forms_facts.specs.Codes.{GoodList}
@@ -11,10 +12,10 @@ use Rattle.requests.specs.declared.RequestV2.{RequestV2}
 use Rattle.requests.specs.declared.RequestV2.TheVariants as request
 use Rattle.replies_v2_values.specs.Value.{value_list}
 use Rattle.replies_v2_values.specs.declared.ReplyV2.TheVariants.{Measured, UnderRange, OverRange, Degrees, FilamentNumber, StatusNumber, Holds, Done, Error}
-use Rattle.replies_v2_values.specs.declared.ReadV2.{ReadV2}
-use Rattle.replies_v2_values.specs.declared.ReadV2.TheVariants.{Read, Refused}
 use Rattle.replies_v2.specs.ReplyV2.{read_v2, beside, data_list, read_list}
 use Rattle.exchange_v2_facts.specs.Theorems.{ReadGood}
+use Rattle.refusals.specs.declared.Refusal.{Refusal}
+use Rattle.replies_v2_values.specs.declared.ReplyV2.{ReplyV2}
 
 data_good : (limits : ProfileLimits) (r : RequestV2) (s : List ℕ) → GoodList limits.source_codes (data_list limits r s)
 unfolding data_list value_list
@@ -26,18 +27,18 @@ data_good limits (request.Read (Of key)) s = accepted_list limits key s
 data_good limits (request.Restore c) s = none_good limits.source_codes
 data_good limits (request.Set x) s = none_good limits.source_codes
 
-beside_good : (limits : ProfileLimits) (x : ReadV2) (list : List ℕ) → GoodList limits.source_codes list → GoodList limits.source_codes (beside x list)
+beside_good : (limits : ProfileLimits) (x : Result ReplyV2 Refusal) (list : List ℕ) → GoodList limits.source_codes list → GoodList limits.source_codes (beside x list)
 unfolding beside
-beside_good limits (Read (Measured n)) list h = none_good limits.source_codes
-beside_good limits (Read UnderRange) list h = none_good limits.source_codes
-beside_good limits (Read OverRange) list h = none_good limits.source_codes
-beside_good limits (Read (Degrees negative d)) list h = none_good limits.source_codes
-beside_good limits (Read (FilamentNumber d)) list h = none_good limits.source_codes
-beside_good limits (Read (StatusNumber d)) list h = none_good limits.source_codes
-beside_good limits (Read (Holds x)) list h = h
-beside_good limits (Read Done) list h = none_good limits.source_codes
-beside_good limits (Read (Error e)) list h = none_good limits.source_codes
-beside_good limits (Refused k) list h = none_good limits.source_codes
+beside_good limits (Ok (Measured n)) list h = none_good limits.source_codes
+beside_good limits (Ok UnderRange) list h = none_good limits.source_codes
+beside_good limits (Ok OverRange) list h = none_good limits.source_codes
+beside_good limits (Ok (Degrees negative d)) list h = none_good limits.source_codes
+beside_good limits (Ok (FilamentNumber d)) list h = none_good limits.source_codes
+beside_good limits (Ok (StatusNumber d)) list h = none_good limits.source_codes
+beside_good limits (Ok (Holds x)) list h = h
+beside_good limits (Ok Done) list h = none_good limits.source_codes
+beside_good limits (Ok (Error e)) list h = none_good limits.source_codes
+beside_good limits (Err k) list h = none_good limits.source_codes
 
 -- whatever the bytes
 pub read_good : ReadGood

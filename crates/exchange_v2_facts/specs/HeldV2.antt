@@ -1,5 +1,5 @@
 -- Document 01, "Settings and readings, V2": what the gauge holds for a V2 request, and what the master is to read of its answer.
-use Rattle.std.specs.Prelude.{◌≡◌, cond, List, [], ℕ, eqb}
+use Rattle.std.specs.Prelude.{◌≡◌, cond, List, [], ℕ, eqb, Ok, Result}
 use Rattle.buffer.specs.First.{pick}
 use Rattle.frames.specs.Frame.{data_from, frame_of}
 use Rattle.frames.specs.declared.Frame.TheVariants.{V2}
@@ -17,14 +17,12 @@ use Rattle.requests.specs.declared.Command.{Command}
 use Rattle.requests.specs.declared.Command.TheVariants.{MV, T2, FN, FS, Of}
 use Rattle.requests.specs.declared.RequestV2.{RequestV2}
 use Rattle.requests.specs.declared.RequestV2.TheVariants as request
-use Rattle.requests.specs.declared.AskV2.TheVariants.{Asks}
 use Rattle.request_texts.specs.RequestText.{access_of, command_in, head_for}
 use Rattle.replies_v2_values.specs.declared.ReplyV2.{ReplyV2}
 use Rattle.replies_v2_values.specs.declared.ReplyV2.TheVariants.{Measured, UnderRange, OverRange, Degrees, FilamentNumber, StatusNumber, Holds, Done, Error}
-use Rattle.replies_v2_values.specs.declared.ReadV2.{ReadV2}
-use Rattle.replies_v2_values.specs.declared.ReadV2.TheVariants.{Read}
 use Rattle.gauge_rules.specs.State.{State}
 use Rattle.gauge_rules.specs.RulesV2.{filament_of, grant_v2}
+use Rattle.refusals.specs.declared.Refusal.{Refusal}
 
 -- ---- what the gauge holds
 
@@ -77,8 +75,8 @@ held_list_v2 g (request.Set x) = []
 -- ---- what the master reads
 
 -- what the master reads: what the gauge holds, or the error of the number that the gauge's rules give the request
-unfoldable pub expected_v2 : State → RequestV2 → ReadV2
-expected_v2 g r = pick (eqb (grant_v2 g r) 0) (Read (held_v2 g r)) (Read (Error (error_of (grant_v2 g r))))
+unfoldable pub expected_v2 : State → RequestV2 → Result ReplyV2 Refusal
+expected_v2 g r = pick (eqb (grant_v2 g r) 0) (Ok (held_v2 g r)) (Ok (Error (error_of (grant_v2 g r))))
 
 -- and the sources beside it
 unfoldable pub expected_list_v2 : State → RequestV2 → List ℕ
@@ -92,5 +90,5 @@ pub record Alike (x y : RequestV2) : Type 0 where
 
 -- bytes that are a V2 frame for the address a, and ask x of a gauge with these limits. (Which written requests are so is not said here.)
 pub record AskedBy (limits : ProfileLimits) (a : ℕ) (x : RequestV2) (s : List ℕ) : Type 0 where
-  pub frame : frame_of s ≡ V2 (head_for a x)
-  pub asks : ask_v2 limits (head_for a x) (data_from 8 s) ≡ Asks x
+  pub frame : frame_of s ≡ Ok (V2 (head_for a x))
+  pub asks : ask_v2 limits (head_for a x) (data_from 8 s) ≡ Ok x

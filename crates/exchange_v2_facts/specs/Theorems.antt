@@ -1,5 +1,5 @@
 -- What is proved here, each statement as a type; proofs/ has the proofs.
-use Rattle.std.specs.Prelude.{◌≡◌, false, List, [], ℕ, ◌≤◌}
+use Rattle.std.specs.Prelude.{◌≡◌, false, List, [], ℕ, ◌≤◌, Ok}
 use Rattle.frame_writer.specs.Written.{frame_v2}
 use Rattle.error_texts.specs.declared.ErrorText.TheVariants.{Logic}
 use Rattle.forms_facts.specs.Codes.{GoodList}
@@ -12,7 +12,6 @@ use Rattle.requests.specs.declared.RequestV2.{RequestV2}
 use Rattle.requests.specs.declared.RequestV2.TheVariants as request
 use Rattle.request_texts.specs.RequestText.{head_for}
 use Rattle.replies_v2_values.specs.declared.ReplyV2.TheVariants.{Measured, Holds, Error}
-use Rattle.replies_v2_values.specs.declared.ReadV2.TheVariants.{Read}
 use Rattle.replies_v2.specs.ReplyV2.{read_v2, read_list}
 use Rattle.gauge_rules.specs.State.{State, fresh}
 use Rattle.gauge_table.specs.After.{answer_of}
@@ -38,17 +37,17 @@ ReadGood = (limits : ProfileLimits) (address : ℕ) (r : RequestV2) (s : List �
 
 -- "At the start each pressure is 1 mbar"
 abbrev pub PressureExpected : Type 0
-PressureExpected = expected_v2 (fresh (limits_of Standard)) (request.Read MV) ≡ Read (Measured (record { negative = false; mantissa = 100000; place = 9 }))
+PressureExpected = expected_v2 (fresh (limits_of Standard)) (request.Read MV) ≡ Ok (Measured (record { negative = false; mantissa = 100000; place = 9 }))
 
 -- C1 is 1.00
 abbrev pub FactorExpected : Type 0
-FactorExpected = expected_v2 (fresh (limits_of Standard)) (request.Read (Of C1)) ≡ Read (Holds (Factor 100))
+FactorExpected = expected_v2 (fresh (limits_of Standard)) (request.Read (Of C1)) ≡ Ok (Holds (Factor 100))
 
 -- "CC written or restored while CM is 1 is LOGIC."
 abbrev pub CathodeExpected : Type 0
-CathodeExpected = expected_v2 (fresh (limits_of Standard)) (request.Set (Cathode 0)) ≡ Read (Error Logic)
+CathodeExpected = expected_v2 (fresh (limits_of Standard)) (request.Set (Cathode 0)) ≡ Ok (Error Logic)
 
 -- what the gauge answers to the bytes of a request for MV is read as 1 mbar
 abbrev pub PressureRead : Type 0
 PressureRead = read_v2 (limits_of Standard) 1 (request.Read MV) (answer_of (fresh (limits_of Standard)) 64 (frame_v2 (head_for 1 (request.Read MV)) [])).reply
-    ≡ Read (Measured (record { negative = false; mantissa = 100000; place = 9 }))
+    ≡ Ok (Measured (record { negative = false; mantissa = 100000; place = 9 }))

@@ -4,6 +4,7 @@ use mathlib.Core.Bool.{Bool, true, false}
 use mathlib.Core.List.{List, [], ◌∷◌}
 use Prim.Native.Nat.{ℕ}
 use lib.ListN.{drop}
+use Rattle.std.specs.Prelude.{Ok}
 use Rattle.sources.specs.Entries.{source_texts, entries_of, entries_list}
 use Rattle.settings.specs.Limits.{ProfileLimits}
 use Rattle.settings.specs.Settings.{key_of}
@@ -13,7 +14,6 @@ use Rattle.settings.specs.declared.Key.TheVariants.{SM}
 use Rattle.settings.specs.declared.Setting.{Setting}
 use Rattle.settings.specs.declared.Setting.TheVariants.{Address, PressureIn, Factor, Control, Cathode, Filament, Switch, Stream}
 use Rattle.forms.specs.Judged.{verdict_of, if_set, list_in}
-use Rattle.forms.specs.declared.Verdict.TheVariants.{Set}
 use Rattle.forms_facts.specs.Codes.{GoodList}
 use Rattle.forms_facts.proofs.Within.{accepted_sound, accepted_list}
 use Rattle.forms_facts.specs.Sound.{Sound, Proper}
@@ -35,7 +35,7 @@ unfolding entries_list entries_of source_texts
 none_listed limits = rw (none_number limits.source_codes)
 
 -- what is accepted has the form with the list that stands beside it
-with_list : (limits : ProfileLimits) (s : List ℕ) (x : Setting) → verdict_of limits (key_of x) s ≡ Set x → Form limits s x → FormWith limits s x (list_in limits (key_of x) s)
+with_list : (limits : ProfileLimits) (s : List ℕ) (x : Setting) → verdict_of limits (key_of x) s ≡ Ok x → Form limits s x → FormWith limits s x (list_in limits (key_of x) s)
 unfolding list_in if_set verdict_of stream_text
 with_list limits s (Address v) e f = (f, refl)
 with_list limits s (PressureIn u) e f = (f, refl)
@@ -46,7 +46,7 @@ with_list limits s (Filament d) e f = (f, refl)
 with_list limits s (Switch t) e f = (f, refl)
 with_list limits s (Stream on) e f = go on e
   where
-    go : (on : Bool) → verdict_of limits SM s ≡ Set (Stream on) → FormWith limits s (Stream on) (list_in limits SM s)
+    go : (on : Bool) → verdict_of limits SM s ≡ Ok (Stream on) → FormWith limits s (Stream on) (list_in limits SM s)
     go true e = rw e (sym (sent_as_accepted limits s true e))
     go false e =
         let z : s ≡ 48 ∷ [] = sym (sent_as_accepted limits s false e) in
@@ -65,7 +65,7 @@ form_only limits s (Switch t) list f h = f.0
 form_only limits s (Stream true) list f h = (list, h, f)
 form_only limits s (Stream false) list f h = ([], none_good limits.source_codes, f.0)
 
-listed : (limits : ProfileLimits) → Proper limits → (s : List ℕ) (x : Setting) (list : List ℕ) → FormWith limits s x list → GoodList limits.source_codes list → verdict_of limits (key_of x) s ≡ Set x → list_in limits (key_of x) s ≡ list
+listed : (limits : ProfileLimits) → Proper limits → (s : List ℕ) (x : Setting) (list : List ℕ) → FormWith limits s x list → GoodList limits.source_codes list → verdict_of limits (key_of x) s ≡ Ok x → list_in limits (key_of x) s ≡ list
 unfolding list_in if_set verdict_of
 listed limits ok s (Address v) list f h e = sym f.1
 listed limits ok s (PressureIn u) list f h e = sym f.1
@@ -78,11 +78,11 @@ listed limits ok s (Stream true) list f h e = rw (e, f) (list_again limits.sourc
 listed limits ok s (Stream false) list f h e = rw (e, f.0) (none_listed limits ∙ sym f.1)
 
 -- what is accepted is of that form, and within the limits
-pub accepted_form : (limits : ProfileLimits) (key : Key) (s : List ℕ) (x : Setting) (list : List ℕ) → verdict_of limits key s ≡ Set x → list_in limits key s ≡ list
+pub accepted_form : (limits : ProfileLimits) (key : Key) (s : List ℕ) (x : Setting) (list : List ℕ) → verdict_of limits key s ≡ Ok x → list_in limits key s ≡ list
     → (key_of x ≡ key) × FormWith limits s x list × Sound limits x × GoodList limits.source_codes list
 accepted_form limits key s x list e f =
     let w = rw e at (formed limits key s) in
-    let m : verdict_of limits (key_of x) s ≡ Set x = rw w.0 e in
+    let m : verdict_of limits (key_of x) s ≡ Ok x = rw w.0 e in
     let l : list_in limits (key_of x) s ≡ list = rw w.0 f in
     (w.0, rw l at (with_list limits s x m w.1), accepted_sound limits key s x e, rw f at (accepted_list limits key s))
 
@@ -91,8 +91,8 @@ accepted_form limits key s x list e f =
 pub accepted_with_list : AcceptedWithList
 accepted_with_list limits ok key s x list = (λ w. accepted_form limits key s x list w.0 w.1, λ w. from key w.0 w.1 w.2 w.3)
   where
-    from : (key : Key) → key_of x ≡ key → FormWith limits s x list → Sound limits x → GoodList limits.source_codes list → (verdict_of limits key s ≡ Set x) × (list_in limits key s ≡ list)
+    from : (key : Key) → key_of x ≡ key → FormWith limits s x list → Sound limits x → GoodList limits.source_codes list → (verdict_of limits key s ≡ Ok x) × (list_in limits key s ≡ list)
     from key k f h l =
-        let e : verdict_of limits (key_of x) s ≡ Set x = (accepted_exactly limits ok (key_of x) s x).1 (refl, form_only limits s x list f l, h) in
+        let e : verdict_of limits (key_of x) s ≡ Ok x = (accepted_exactly limits ok (key_of x) s x).1 (refl, form_only limits s x list f l, h) in
         let m : list_in limits (key_of x) s ≡ list = listed limits ok s x list f l e in
         (rw k at e, rw k at m)

@@ -7,6 +7,7 @@ use native.Mathlib.Omega.{arith}
 use borrow.Author.Tests.{eqb-true, ne_eqb, not-false}
 use lib.Dec.{eqb}
 use lib.ListN.{drop}
+use Rattle.std.specs.Prelude.{Err, Ok}
 use Rattle.buffer.specs.First.{pick}
 use Rattle.buffer.specs.Byte.{every, within, leading, starts_with}
 use Rattle.sources.specs.Source.{among, stand_once, list_text}
@@ -17,12 +18,12 @@ use Rattle.settings.specs.Limits.{ProfileLimits}
 use Rattle.settings.specs.declared.Setting.TheVariants.{Stream}
 use Rattle.forms.specs.Forms.{idle_list, known_mode, stream_of, stream_data}
 use Rattle.forms.specs.Judged.{verdict_of, verdict_number}
-use Rattle.forms.specs.declared.Verdict.TheVariants.{Set, Refused}
 use Rattle.forms_facts.proofs.Lemmas.Lists.{listed, listed_known, listed_text, once_number}
 use Rattle.forms_facts.proofs.Lemmas.Texts.{none_number, list_number}
 use Rattle.forms_facts.proofs.Again.{alone}
 use Rattle.forms_facts.specs.Sound.{Proper}
 use Rattle.forms_facts.specs.Theorems.{LogicExactly, LongerLogic}
+use Rattle.refusals.specs.declared.Refusal.{Refusal}
 
 -- what a refusal with 12 went by
 record Twelve (s : List ℕ) (n : ℕ) : Type 0 where
@@ -33,7 +34,7 @@ record Twelve (s : List ℕ) (n : ℕ) : Type 0 where
   twice : eqb n 12 ≡ true
 
 twelve : (s : List ℕ) (n : ℕ) (a b c d e f : Bool) → eqb (leading s) 0 ≡ a → eqb n 10 ≡ b → idle_list s ≡ c → not (known_mode s) ≡ d → eqb n 11 ≡ e → eqb n 12 ≡ f
-    → verdict_number (pick a (Refused 10) (pick b (Refused 10) (pick c (Refused 10) (pick d (Refused 11) (pick e (Refused 11) (pick f (Refused 12) (Set (Stream (starts_with 52 s))))))))) ≡ 12
+    → verdict_number (pick a (Err Refusal.Syntax) (pick b (Err Refusal.Syntax) (pick c (Err Refusal.Syntax) (pick d (Err Refusal.Range) (pick e (Err Refusal.Range) (pick f (Err Refusal.Logic) (Ok (Stream (starts_with 52 s))))))))) ≡ 12
     → Twelve s n
 unfolding pick
 twelve s n false false false false false true p q r t u v h = record { formed = q; busy = r; mode = not-false _ t; known = u; twice = v }
@@ -70,7 +71,7 @@ holds limits (x ∷ t) w =
     (codes, rw (mode_4 limits x t w.busy w.mode w.twice, listed_text limits.source_codes t l), listed_known limits.source_codes t l, (once_exactly codes).0 twice)
 
 -- a list of known sources that do not stand once
-refused : (limits : ProfileLimits) → Proper limits → (list : List ℕ) → every (among limits.source_codes) list ≡ true → stand_once list ≡ false → stream_data limits (52 ∷ list_text list) ≡ Refused 12
+refused : (limits : ProfileLimits) → Proper limits → (list : List ℕ) → every (among limits.source_codes) list ≡ true → stand_once list ≡ false → stream_data limits (52 ∷ list_text list) ≡ Err Refusal.Logic
 unfolding stream_data stream_of leading starts_with idle_list known_mode pick within
 refused limits ok list k l =
     let n : entries_number limits.source_codes (list_text list) ≡ 12 = list_number limits.source_codes ok.here list k ∙ rw l in

@@ -8,26 +8,26 @@ use native.Mathlib.Omega.{arith}
 use borrow.Author.Tests.{eqb-true, eq-eqb, ne_eqb, not-true, not-false}
 use lib.Dec.{eqb}
 use lib.ListN.{length, drop}
+use Rattle.std.specs.Prelude.{Err, Ok, Result}
 use Rattle.buffer.specs.First.{pick}
 use Rattle.buffer.specs.Byte.{is_digit, every, leading, starts_with, same_text}
 use Rattle.buffer.proofs.Laws.{within_true}
 use Rattle.buffer.proofs.Rules.{each}
 use Rattle.sources.specs.Source.{source_text, is_source, find_source, source_of, stand_once}
 use Rattle.sources.specs.Entries.{source_texts, entries_of, is_formed, is_known, code_of, opens, entries_number}
-use Rattle.sources.specs.declared.Source.{Source}
-use Rattle.sources.specs.declared.Source.TheVariants.{Known, Malformed}
 use Rattle.sources.proofs.Laws.{short_form, long_form, not_short}
 use Rattle.settings.specs.Limits.{ProfileLimits}
 use Rattle.settings.specs.declared.Setting.TheVariants.{Stream}
 use Rattle.forms.specs.Forms.{idle_list, known_mode, stream_of, stream_data}
 use Rattle.forms.specs.Judged.{verdict_of, verdict_number}
-use Rattle.forms.specs.declared.Verdict.TheVariants.{Set, Refused}
 use Rattle.forms_facts.specs.Codes.{entries_text, is_known_text}
 use Rattle.forms_facts.specs.Theorems.{RangeExactly}
 use Rattle.forms_facts.proofs.Lemmas.Lacks.{lacks, split}
 use Rattle.forms_facts.proofs.Lemmas.Lists.{joined_texts}
 use Rattle.forms_facts.proofs.Lemmas.Texts.{texts_back, opens_texts}
 use Rattle.forms_facts.proofs.Logic.{no_list}
+use Rattle.sources.specs.declared.SourceError.{SourceError}
+use Rattle.refusals.specs.declared.Refusal.{Refusal}
 
 -- ---- texts of the form
 
@@ -64,13 +64,13 @@ all_lack (t ∷ ts) e = let w = split (is_source t) (every is_source ts) e in rw
 find_formed : (codes t : List ℕ) → is_formed (find_source codes t) ≡ true
 unfolding find_source
 find_formed [] t = refl
-find_formed (c ∷ codes) t = each (λ (r : Source). is_formed r ≡ true) (same_text t (source_text c)) (Known c) (find_source codes t) (λ _. refl) (λ _. find_formed codes t)
+find_formed (c ∷ codes) t = each (λ (r : Result ℕ SourceError). is_formed r ≡ true) (same_text t (source_text c)) (Ok c) (find_source codes t) (λ _. refl) (λ _. find_formed codes t)
 
 formed_is : (codes : List ℕ) (t : List ℕ) → is_formed (source_of codes t) ≡ is_source t
 unfolding source_of pick
 formed_is codes t = go (is_source t)
   where
-    go : (b : Bool) → is_formed (pick (not b) Malformed (find_source codes t)) ≡ b
+    go : (b : Bool) → is_formed (pick (not b) (Err SourceError.Malformed) (find_source codes t)) ≡ b
     go true = find_formed codes t
     go false = refl
 
@@ -127,7 +127,7 @@ record Eleven (s : List ℕ) (n : ℕ) : Type 0 where
   why : (known_mode s ≡ false) ⊎ (eqb n 11 ≡ true)
 
 eleven : (s : List ℕ) (n : ℕ) (a b c d e f : Bool) → eqb (leading s) 0 ≡ a → eqb n 10 ≡ b → idle_list s ≡ c → not (known_mode s) ≡ d → eqb n 11 ≡ e → eqb n 12 ≡ f
-    → verdict_number (pick a (Refused 10) (pick b (Refused 10) (pick c (Refused 10) (pick d (Refused 11) (pick e (Refused 11) (pick f (Refused 12) (Set (Stream (starts_with 52 s))))))))) ≡ 11
+    → verdict_number (pick a (Err Refusal.Syntax) (pick b (Err Refusal.Syntax) (pick c (Err Refusal.Syntax) (pick d (Err Refusal.Range) (pick e (Err Refusal.Range) (pick f (Err Refusal.Logic) (Ok (Stream (starts_with 52 s))))))))) ≡ 11
     → Eleven s n
 unfolding pick
 eleven s n false false false true e f p q r t u v h = record { some = p; formed = q; busy = r; why = inl (not-true _ t) }
@@ -194,7 +194,7 @@ not_10 true d = refl
 not_10 false true = refl
 not_10 false false = refl
 
-refused : (limits : ProfileLimits) (m : ℕ) (ts : List (List ℕ)) → is_digit m ≡ true → every is_source ts ≡ true → (m ≡ 48 → ⊥) → (m ≡ 52 → every (is_known_text limits.source_codes) ts ≡ false) → stream_data limits (m ∷ entries_text ts) ≡ Refused 11
+refused : (limits : ProfileLimits) (m : ℕ) (ts : List (List ℕ)) → is_digit m ≡ true → every is_source ts ≡ true → (m ≡ 48 → ⊥) → (m ≡ 52 → every (is_known_text limits.source_codes) ts ≡ false) → stream_data limits (m ∷ entries_text ts) ≡ Err Refusal.Range
 unfolding stream_data stream_of leading starts_with idle_list known_mode pick
 refused limits m ts d f z k = go (eqb m 52) refl
   where
@@ -207,7 +207,7 @@ refused limits m ts d f z k = go (eqb m 52) refl
     formed : eqb n 10 ≡ false
     formed = rw (texts_number limits ts f) (not_10 (not (every (is_known_text limits.source_codes) ts)) (not (stand_once (map code_of (entries_of limits.source_codes (entries_text ts))))))
 
-    go : (b : Bool) → eqb m 52 ≡ b → stream_data limits (m ∷ entries_text ts) ≡ Refused 11
+    go : (b : Bool) → eqb m 52 ≡ b → stream_data limits (m ∷ entries_text ts) ≡ Err Refusal.Range
     go true e =
         let eleven : n ≡ 11 = texts_number limits ts f ∙ rw (k (eqb-true m 52 e)) in
         rw (d, l, eleven, ne_eqb m 48 z, e)

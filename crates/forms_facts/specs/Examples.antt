@@ -1,6 +1,6 @@
 -- Document 01, the column "Data", and document 02, "No repeated sources" and "Hot cathode gauges": worked cases, their answers taken from the
 -- papers.
-use Rattle.std.specs.Prelude.{Bool, List, [], ◌∷◌, map, ℕ, eqb}
+use Rattle.std.specs.Prelude.{Bool, List, [], ◌∷◌, map, ℕ, eqb, Err, Ok, Result}
 use Prim.Native.String.{String}
 use Rattle.buffer.specs.Byte.{same_text}
 use Rattle.sources.specs.declared.Profile.{Profile}
@@ -8,12 +8,12 @@ use Rattle.sources.specs.declared.Profile.TheVariants.{Standard, Vsh, Vsm}
 use Rattle.settings.specs.Limits.{limits_of}
 use Rattle.settings.specs.Settings.{factory, put_of}
 use Rattle.settings.specs.Sent.{read_text}
+use Rattle.settings.specs.declared.Setting.{Setting}
 use Rattle.settings.specs.declared.Key.{Key}
 use Rattle.settings.specs.declared.Key.TheVariants.{DA, DU, C1, CM, CC, FC, ST, SM}
 use Rattle.forms.specs.Judged.{verdict_of, verdict_number, list_in}
-use Rattle.forms.specs.declared.Verdict.{Verdict}
-use Rattle.forms.specs.declared.Verdict.TheVariants.{Set, Refused}
 use Rattle.buffer.specs.Quoted.{bytes}
+use Rattle.refusals.specs.declared.Refusal.{Refusal}
 
 -- a write's data, and the number that the paper gives it
 pub record Case : Type 0 where
@@ -163,9 +163,9 @@ sends =
     ∷ []
 
 -- what a read sends after this write
-abbrev pub sent_after : Key → List ℕ → Verdict → List ℕ
-sent_after key text (Set x) = read_text key (put_of (factory (limits_of Standard)) x (list_in (limits_of Standard) key text))
-sent_after key text (Refused k) = []
+abbrev pub sent_after : Key → List ℕ → Result Setting Refusal → List ℕ
+sent_after key text (Ok x) = read_text key (put_of (factory (limits_of Standard)) x (list_in (limits_of Standard) key text))
+sent_after key text (Err k) = []
 
 abbrev pub well : Sends → Bool
 well c = same_text (sent_after c.key c.text (verdict_of (limits_of Standard) c.key c.text)) c.sent

@@ -1,10 +1,9 @@
 -- Document 01, the column "Data": the form of each setting's text.
-use Rattle.std.specs.Prelude.{◌≡◌, true, false, List, [], ◌∷◌, ◌++◌, ℕ, ◌+◌, ◌*◌, ◌^◌}
+use Rattle.std.specs.Prelude.{◌≡◌, true, false, List, [], ◌∷◌, ◌++◌, ℕ, ◌+◌, ◌*◌, ◌^◌, Ok}
 use Rattle.buffer.specs.Byte.{digits3}
 use Rattle.decimal.specs.Exact.{units}
 use Rattle.decimal.specs.Form.{number_of}
 use Rattle.decimal.specs.declared.Number.{Number}
-use Rattle.decimal.specs.declared.Parsed.TheVariants.{Value}
 use Rattle.sources.specs.Source.{list_text}
 use Rattle.settings.specs.Limits.{ProfileLimits}
 use Rattle.settings.specs.Sent.{unit_text, stream_text}
@@ -18,12 +17,12 @@ use Rattle.forms_facts.specs.Codes.{GoodList}
 abbrev pub Form : ProfileLimits → List ℕ → Setting → Type 0
 Form limits s (Address v) = s ≡ digits3 v
 Form limits s (PressureIn u) = s ≡ unit_text u
-Form limits s (Factor h) = (n : Number) × (number_of s ≡ Value n) × (n.negative ≡ false) × (units n ≡ h * 10 ^ 12)
+Form limits s (Factor h) = (n : Number) × (number_of s ≡ Ok n) × (n.negative ≡ false) × (units n ≡ h * 10 ^ 12)
 Form limits s (Control d) = s ≡ (d + 48) ∷ []
 Form limits s (Cathode d) = s ≡ (d + 48) ∷ []
 Form limits s (Filament d) = s ≡ (d + 48) ∷ []
-Form limits s (Switch (Direct n)) = (t : List ℕ) × (s ≡ 68 ∷ t) × (number_of t ≡ Value n)
-Form limits s (Switch (Between a b)) = (t : List ℕ) × (u : List ℕ) × (s ≡ 70 ∷ (t ++ 84 ∷ u)) × (number_of t ≡ Value a) × (number_of u ≡ Value b)
+Form limits s (Switch (Direct n)) = (t : List ℕ) × (s ≡ 68 ∷ t) × (number_of t ≡ Ok n)
+Form limits s (Switch (Between a b)) = (t : List ℕ) × (u : List ℕ) × (s ≡ 70 ∷ (t ++ 84 ∷ u)) × (number_of t ≡ Ok a) × (number_of u ≡ Ok b)
 Form limits s (Stream on) = (list : List ℕ) × GoodList limits.source_codes list × (s ≡ stream_text on list)
 
 -- the text has the form with this value and this list of sources beside it: SM's `0` has none, its `4` is followed by the list, each entry

@@ -1,5 +1,5 @@
 -- Laws of frames that are written.
-use mathlib.Core.Path.{◌≡◌, sym, ap, ◌∙◌}
+use mathlib.Core.Path.{◌≡◌, refl, sym, ap, ◌∙◌}
 use mathlib.Core.Bool.{Bool, true, false, not}
 use mathlib.Core.List.{List, [], ◌∷◌, ◌++◌}
 use Prim.Native.Nat.{ℕ, ◌+◌, ◌<◌, ◌≤◌}
@@ -7,10 +7,12 @@ use native.Mathlib.Nat.{zero-add}
 use native.Mathlib.Omega.{arith}
 use lib.ListN.{length, take, length-append}
 use Rattle.buffer.specs.Byte.{within, digits2, digits3}
-use Rattle.buffer.specs.Answer.{silent, Stored, Sent}
+use Rattle.buffer.specs.Answer.{Answer, silent, over, Stored, Sent}
 use Rattle.buffer.specs.declared.Written.{Written}
 use Rattle.buffer.proofs.Laws.{then, front}
 use Rattle.buffer.proofs.Rules.{rules}
+use Rattle.refusals.specs.Number.{refusal_number}
+use Rattle.refusals.specs.declared.Refusal.{Refusal}
 use Rattle.frames.specs.Checksum.{end_of, closed}
 use Rattle.frames.specs.declared.HeadV1.{HeadV1}
 use Rattle.frames.specs.declared.HeadV2.{HeadV2}
@@ -24,6 +26,11 @@ length_closed head bytes = simp length-append (omega arith)
 pub closes : {m m₁ m₂ b : List ℕ} (p : ℕ) → Stored m 0 b m₁ → p ≡ length b → length b ≤ length m → Stored m₁ p (end_of (take p m₁)) m₂ → Stored m 0 (closed b) m₂
 unfolding closed
 closes p f n h g = then p f (n ∙ sym (zero-add _)) (rw (front p f n h) at g)
+
+-- a refusal's answer
+pub refuses_by : (m : List ℕ) (k : Refusal) {a : Answer} (w : Written) → a ≡ silent (refusal_number k) → w.number ≡ refusal_number k → w.len ≡ 0 → Sent m a m w
+unfolding over
+refuses_by m k w e n l = rw e (record { number = n; len = l; memory = refl })
 
 -- what a frame's writer answers, by its tests
 module _ (room : ℕ) (carried : Bool) (address : ℕ) (frame : List ℕ) where

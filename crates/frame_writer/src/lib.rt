@@ -1,13 +1,19 @@
 #![tactic(auto)]
 // Text frames of the protocols V1 and V2 (document 01, "Text frames" and the reply column of "Answer numbers of the text gauge"): frames and
 // error frames written into lent memory, and the end of a frameless line.
-ghost use Rattle.std.specs.Prelude.{◌≡◌, ◌++◌, ◌≤◌, length, take};
-ghost use Rattle.buffer.specs.Answer.{Stored, Sent};
+ghost use Rattle.std.specs.Prelude.{◌≡◌, ◌++◌, ◌≤◌, Bool, ℕ, List, length, take};
+ghost use Rattle.std.proofs.Common.{lit≤};
+ghost use Rattle.buffer.specs.Answer.{Answer, Stored, Sent};
+ghost use Rattle.buffer.specs.Byte.{digit};
 ghost use Rattle.buffer.specs.Text.{text_of};
+ghost use Rattle.refusals.specs.Number.{refusal_number};
 ghost use Rattle.frames.specs.Checksum.{end_of, closed};
 ghost use Rattle.frame_writer.specs.Written.{data_fit, is_address, carries_v2, carries_v1, frame_written, written_v2, written_v1};
+ghost use Rattle.frame_writer.specs.Start.{start_v2, start_v1, size_is_v2, size_is_v1, written_is_v2, written_is_v1};
 ghost use Rattle.error_texts.specs.Texts.{error_bytes, error_of};
 ghost use Rattle.frame_writer.specs.Error.{error_head_v2, error_head_v1, error_data_v1};
+
+use refusals::Refusal;
 
 // Stores the checksum of all that stands before `at`, and CR: the end of a frame and of a frameless line.
 pub fn put_end(out: &mut [u8], at: usize)
@@ -21,6 +27,7 @@ pub fn put_end(out: &mut [u8], at: usize)
 }
 
 // An address that a frame can hold: 1 to 999.
+#[tactic(auto, unfolding(buffer::specs::Byte::within))]
 pub fn is_address(address: u16) -> bool
     ensures { result ≡ is_address address }
 {
@@ -28,65 +35,210 @@ pub fn is_address(address: u16) -> bool
 }
 
 // Whether a frame can carry these data: at most `most` bytes of 32 to 126.
+#[tactic(auto, unfolding(crate::specs::Written::data_fit))]
 fn data_fit(bytes: &[u8], most: usize) -> bool
     ensures { result ≡ data_fit most bytes.now }
 {
-    if most < bytes.len() {
-        return false;
-    }
-    buffer::all_within(bytes, 32, 126)
+    bytes.len() <= most && buffer::all_within(bytes, 32, 126)
 }
 
-// Whether a V2 frame can carry this head and these data.
-fn carries_v2(head: frames::HeadV2, bytes: &[u8]) -> bool
-    ensures { result ≡ carries_v2 head bytes.now }
-{
-    if !buffer::is_within(head.access, 48, 57) {
-        return false;
-    }
-    if !buffer::is_within(head.first, 32, 126) {
-        return false;
-    }
-    if !buffer::is_within(head.second, 32, 126) {
-        return false;
-    }
-    data_fit(bytes, 99)
+// What stands before the data of a frame of V1 or of V2.
+pub trait Head: Copy {
+    ghost address: { Self → ℕ };
+
+    // whether a frame can carry a head and these data
+    ghost carries: { Self → List ℕ → Bool };
+
+    // the bytes before the data, told how many data there are: SIZE of them
+    ghost start: { Self → ℕ → List ℕ };
+
+    ghost SIZE: { ℕ };
+
+    // what a writer answers that is lent so much room
+    ghost written: { ℕ → Self → List ℕ → Answer };
+
+    // the head and the data of the error frame with this number
+    ghost error_head: { ℕ → Self → Self };
+
+    ghost error_data: { ℕ → List ℕ };
+
+    const SIZE: usize;
+
+    fn address(self) -> u16
+        ensures { result ≡ address self };
+
+    fn carries(self, bytes: &[u8]) -> bool
+        ensures { result ≡ carries self bytes.now };
+
+    // The first SIZE of these stand before the data.
+    fn start(self, count: usize) -> [u8; 8]
+        ensures { take SIZE result ≡ start self count };
+
+    // The head and the data of the error frame that answers a request with this head.
+    fn error(self, number: u8) -> (Self, buffer::Text)
+        ensures head { result.0 ≡ error_head number self }
+        ensures data { text_of result.1 ≡ error_data number };
+
+    ghost few: { SIZE ≤ 8 };
+
+    ghost size_is: { (h : Self) (count : ℕ) → length (start h count) ≡ SIZE };
+
+    ghost written_is: { (room : ℕ) (h : Self) (bytes : List ℕ) → written room h bytes ≡ frame_written room (carries h bytes) (address h) (closed (start h (length bytes) ++ bytes)) };
 }
 
-// Whether a V1 frame can carry this head and these data.
-fn carries_v1(head: frames::HeadV1, bytes: &[u8]) -> bool
-    ensures { result ≡ carries_v1 head bytes.now }
+// The last digit of n.
+fn digit(n: usize) -> u8
+    ensures { result ≡ digit n }
 {
-    if !frames::is_letter(head.letter) {
-        return false;
-    }
-    data_fit(bytes, 6)
+    (n % 10) as u8 + b'0'
 }
 
-// Writes a whole frame at the front of out: its head, the data and the end. Refuses with 1 where it does not fit, with 2 where a frame
-// cannot carry them (`carried` is false), with 4 where the address lies outside 1 to 999; then out stays as it was.
-fn write_frame(
-    out: &mut [u8],
-    address: u16,
-    head: &[u8],
-    bytes: &[u8],
-    carried: bool,
-) -> buffer::Written
-    requires { length head.now ≤ 8 }
-    ensures { Sent out.old (frame_written (length out.old) carried address (closed (head.now ++ bytes.now))) out.new result }
+#[tactic(auto, unfolding(crate::specs::Start::start_v2, crate::specs::Written::carries_v2, crate::specs::Error::error_head_v2, error_texts::specs::Texts::error_bytes, buffer::specs::Text::text_of, buffer::specs::Text::cut, buffer::specs::Byte::within))]
+impl Head for frames::HeadV2 {
+    ghost address = { λ h. h.address };
+
+    ghost carries = { carries_v2 };
+
+    ghost start = { start_v2 };
+
+    ghost SIZE = { 8 };
+
+    ghost written = { written_v2 };
+
+    ghost error_head = { λ _ h. error_head_v2 h };
+
+    ghost error_data = { λ number. error_bytes (error_of number) };
+
+    const SIZE: usize = 8;
+
+    fn address(self) -> u16 {
+        self.address
+    }
+
+    // The access code is a digit, the command is of 32 to 126, and the data fit.
+    fn carries(self, bytes: &[u8]) -> bool {
+        self.access.is_ascii_digit()
+            && buffer::is_within(self.first, 32, 126)
+            && buffer::is_within(self.second, 32, 126)
+            && data_fit(bytes, 99)
+    }
+
+    fn start(self, count: usize) -> [u8; 8] {
+        let address = self.address as usize;
+        [
+            digit(address / 100),
+            digit(address / 10),
+            digit(address),
+            self.access,
+            self.first,
+            self.second,
+            digit(count / 10),
+            digit(count),
+        ]
+    }
+
+    fn error(self, number: u8) -> (frames::HeadV2, buffer::Text) {
+        let head = frames::HeadV2 {
+            access: b'7',
+            ..self
+        };
+        let text = error_texts::error_bytes(error_texts::error_of(number));
+        (head, buffer::Text::EMPTY.add(&text))
+    }
+
+    ghost few = { lit≤ tt };
+
+    ghost size_is = { size_is_v2 };
+
+    ghost written_is = { written_is_v2 };
+}
+
+#[tactic(auto, unfolding(crate::specs::Start::start_v1, crate::specs::Written::carries_v1, crate::specs::Error::error_head_v1, crate::specs::Error::error_letter_v1, crate::specs::Error::error_data_v1, error_texts::specs::Texts::error_bytes, buffer::specs::First::pick, buffer::specs::Text::text_of, buffer::specs::Text::cut))]
+impl Head for frames::HeadV1 {
+    ghost address = { λ h. h.address };
+
+    ghost carries = { carries_v1 };
+
+    ghost start = { start_v1 };
+
+    ghost SIZE = { 4 };
+
+    ghost written = { written_v1 };
+
+    ghost error_head = { error_head_v1 };
+
+    ghost error_data = { error_data_v1 };
+
+    const SIZE: usize = 4;
+
+    fn address(self) -> u16 {
+        self.address
+    }
+
+    fn carries(self, bytes: &[u8]) -> bool {
+        frames::is_letter(self.letter) && data_fit(bytes, 6)
+    }
+
+    fn start(self, _count: usize) -> [u8; 8] {
+        let address = self.address as usize;
+        [
+            digit(address / 100),
+            digit(address / 10),
+            digit(address),
+            self.letter,
+            0,
+            0,
+            0,
+            0,
+        ]
+    }
+
+    fn error(self, number: u8) -> (frames::HeadV1, buffer::Text) {
+        let (letter, text) = match number {
+            8 => (b'N', buffer::Text::EMPTY.add(b"O_DEF")),
+            11 => (self.letter, buffer::Text::EMPTY.add(b"_RANGE")),
+            13 => (b'M', buffer::Text::EMPTY.add(b"1")),
+            _ => (self.letter, buffer::Text::EMPTY.add(b"_LOGIC")),
+        };
+        (frames::HeadV1 { letter, ..self }, text)
+    }
+
+    ghost few = { lit≤ tt };
+
+    ghost size_is = { size_is_v1 };
+
+    ghost written_is = { written_is_v1 };
+}
+
+// The answer of a refusal: its number, and nothing written.
+fn refused(k: Refusal) -> buffer::Written
+    ensures number { result.number ≡ refusal_number k }
+    ensures len { result.len ≡ 0 }
 {
-    let k = head.len();
+    buffer::Written {
+        number: k.number() as u16,
+        len: 0,
+    }
+}
+
+// Writes a frame at the front of out: its head, the data and the end. Refuses with 1 where it does not fit, with 2 where a frame cannot carry them, with
+// 4 where the address lies outside 1 to 999; then out stays as it was.
+pub fn write<H: Head>(out: &mut [u8], head: H, bytes: &[u8]) -> buffer::Written
+    ensures { Sent out.old (H.written (length out.old) head bytes.now) out.new result }
+{
+    let k = H::SIZE;
     let n = bytes.len();
     if out.len() < k + n + 2 {
-        return buffer::Written { number: 1, len: 0 };
+        return refused(Refusal::Room);
     }
-    if !carried {
-        return buffer::Written { number: 2, len: 0 };
+    if !head.carries(bytes) {
+        return refused(Refusal::Shape);
     }
-    if !is_address(address) {
-        return buffer::Written { number: 4, len: 0 };
+    if !is_address(head.address()) {
+        return refused(Refusal::Address);
     }
-    buffer::put(out, 0, head);
+    let start = head.start(n);
+    buffer::put(out, 0, &start[..k]);
     buffer::put(out, k, bytes);
     put_end(out, k + n);
     buffer::Written {
@@ -95,109 +247,18 @@ fn write_frame(
     }
 }
 
-// Writes a V2 frame with these data. Refuses with 1, 2 (the access code is no digit, a byte of the command or of the data is outside 32 to
-// 126, or the data are over 99 bytes) or 4; then out stays as it was.
-pub fn write_v2(out: &mut [u8], head: frames::HeadV2, bytes: &[u8]) -> buffer::Written
-    ensures { Sent out.old (written_v2 (length out.old) head bytes.now) out.new result }
-{
-    let address = head.address;
-    let n = bytes.len();
-    let start = [
-        (address / 100 % 10) as u8 + 48,
-        (address / 10 % 10) as u8 + 48,
-        (address % 10) as u8 + 48,
-        head.access,
-        head.first,
-        head.second,
-        (n / 10 % 10) as u8 + 48,
-        (n % 10) as u8 + 48,
-    ];
-    let carried = carries_v2(head, bytes);
-    write_frame(out, address, &start, bytes, carried)
-}
-
-// Writes a V1 frame with these data. Refuses with 1, 2 (the letter is none, a byte of the data is outside 32 to 126, or the data are over 6
-// bytes) or 4; then out stays as it was.
-pub fn write_v1(out: &mut [u8], head: frames::HeadV1, bytes: &[u8]) -> buffer::Written
-    ensures { Sent out.old (written_v1 (length out.old) head bytes.now) out.new result }
-{
-    let address = head.address;
-    let start = [
-        (address / 100 % 10) as u8 + 48,
-        (address / 10 % 10) as u8 + 48,
-        (address % 10) as u8 + 48,
-        head.letter,
-    ];
-    let carried = carries_v1(head, bytes);
-    write_frame(out, address, &start, bytes, carried)
-}
-
-// Writes a V2 frame whose data are a short text.
-pub fn write_text_v2(out: &mut [u8], head: frames::HeadV2, text: buffer::Text) -> buffer::Written
-    ensures sent { Sent out.old (written_v2 (length out.old) head (text_of text)) out.new result }
+// Writes a frame whose data are a short text.
+pub fn write_text<H: Head>(out: &mut [u8], head: H, text: buffer::Text) -> buffer::Written
+    ensures sent { Sent out.old (H.written (length out.old) head (text_of text)) out.new result }
     ensures text_len_bound { length (text_of text) ≤ 24 }
 {
-    let n = text.size();
-    let bytes = text.bytes;
-    write_v2(out, head, &bytes[..n])
+    write(out, head, text.as_slice())
 }
 
-// Writes a V1 frame whose data are a short text.
-pub fn write_text_v1(out: &mut [u8], head: frames::HeadV1, text: buffer::Text) -> buffer::Written
-    ensures { Sent out.old (written_v1 (length out.old) head (text_of text)) out.new result }
+// Writes the error frame that answers a request with this head.
+pub fn write_error<H: Head>(out: &mut [u8], head: H, number: u8) -> buffer::Written
+    ensures { Sent out.old (H.written (length out.old) (H.error_head number head) (H.error_data number)) out.new result }
 {
-    let n = text.size();
-    let bytes = text.bytes;
-    write_v1(out, head, &bytes[..n])
-}
-
-// ---- error frames
-
-// Writes the error frame that answers a V2 request with this head.
-pub fn write_error_v2(out: &mut [u8], head: frames::HeadV2, number: u8) -> buffer::Written
-    ensures { Sent out.old (written_v2 (length out.old) (error_head_v2 head) (error_bytes (error_of number))) out.new result }
-{
-    let text = error_texts::error_bytes(error_texts::error_of(number));
-    let answer = frames::HeadV2 {
-        address: head.address,
-        access: b'7',
-        first: head.first,
-        second: head.second,
-    };
-    write_v2(out, answer, &text)
-}
-
-// Writes the error frame that answers a V1 request with this head.
-pub fn write_error_v1(out: &mut [u8], head: frames::HeadV1, number: u8) -> buffer::Written
-    ensures { Sent out.old (written_v1 (length out.old) (error_head_v1 number head) (error_data_v1 number)) out.new result }
-{
-    let address = head.address;
-    if number == 8 {
-        let text = [b'O', b'_', b'D', b'E', b'F'];
-        return write_v1(
-            out,
-            frames::HeadV1 {
-                address,
-                letter: b'N',
-            },
-            &text,
-        );
-    }
-    if number == 11 {
-        let text = error_texts::error_bytes(error_texts::ErrorText::Range);
-        return write_v1(out, head, &text);
-    }
-    if number == 13 {
-        let text = [b'1'];
-        return write_v1(
-            out,
-            frames::HeadV1 {
-                address,
-                letter: b'M',
-            },
-            &text,
-        );
-    }
-    let text = error_texts::error_bytes(error_texts::ErrorText::Logic);
-    write_v1(out, head, &text)
+    let (answer, text) = head.error(number);
+    write_text(out, answer, text)
 }

@@ -1,15 +1,17 @@
 -- Laws of the checksum and of what a frame is.
+use Rattle.std.specs.Prelude.{Option, None, Some, Err, Ok, Result}
 use Rattle.std.proofs.Common.{◌≡◌, ℕ, ◌+◌, ◌-◌, ◌*◌, ◌<◌, ◌≤◌, Bool, true, false, not, eqb, leb, List, [], ◌∷◌, length, get_or, take, drop, sym, refl, ap, ◌∙◌, true≢false, arith, drop_of_length-le, length-take, take_all, le-leb}
 use mathlib.Core.Bool.{false≢true}
 use borrow.Author.Tests.{lt-leb, not-false}
 use Rattle.buffer.specs.First.{◌⇒◌, pick, first}
 use Rattle.buffer.specs.Byte.{at, within, is_digit, every, numeral_from, numeral}
-use Rattle.buffer.proofs.Laws.{drop_step, within_true}
-use Rattle.buffer.proofs.Rules.{each, flag, not_eqb, not_neqb}
+use Rattle.buffer.proofs.Laws.{drop_step, within_true, at_past}
+use Rattle.buffer.proofs.Rules.{past, stop, each, flag, not_eqb, not_neqb}
 use Rattle.frames.specs.Checksum.{sum_of, checksum_of}
 use Rattle.frames.specs.Frame.{is_letter, body, sum_byte, last_byte, length_fits, misshapen, wrong_sum, wrong_address, wrong_length, head_v1, head_v2, frame_of}
 use Rattle.frames.specs.declared.Frame.{Frame}
-use Rattle.frames.specs.declared.Frame.TheVariants.{Silent, V1, Length, V2}
+use Rattle.frames.specs.declared.Frame.TheVariants.{V1, Length, V2}
+use Rattle.refusals.specs.declared.Refusal.{Refusal}
 
 -- ---- the checksum
 
@@ -22,27 +24,26 @@ pub sum_end : (s : List ℕ) (i : ℕ) → length s ≤ i → sum_of (drop i s) 
 unfolding sum_of
 sum_end s i h = ap sum_of (drop_of_length-le s h)
 
--- the checksum of bytes that are 32 to 126, 0 for others
-abbrev pub printed_sum : List ℕ → ℕ
-printed_sum s = first (every (within 32 126) s ⇒ checksum_of s ∷ []) 0
+-- the checksum of bytes that are all 32 to 126
+abbrev pub printed_sum : List ℕ → Option ℕ
+printed_sum s = first (every (within 32 126) s ⇒ Some (checksum_of s) ∷ []) None
 
-pub not_printed : (s : List ℕ) (k : ℕ) → k ≡ printed_sum s → k ≡ 0 → not (every (within 32 126) s) ≡ true
-unfolding checksum_of
-not_printed s k e z = each (λ (x : ℕ). 0 ≡ x → not (every (within 32 126) s) ≡ true) _ _ _ (λ _ h. absurd (omega arith)) (λ t _. ap not t) (sym z ∙ e)
+pub not_printed : (s : List ℕ) (r : Option ℕ) → r ≡ printed_sum s → r ≡ None → not (every (within 32 126) s) ≡ true
+not_printed s r e z = each (λ (x : Option ℕ). None ≡ x → not (every (within 32 126) s) ≡ true) _ _ _ (λ _ h. cc) (λ t _. ap not t) (sym z ∙ e)
 
-pub printed : (s : List ℕ) (k : ℕ) → k ≡ printed_sum s → (k ≡ 0 → ⊥) → (not (every (within 32 126) s) ≡ false) × (k ≡ checksum_of s)
-printed s k e h = each (λ (x : ℕ). k ≡ x → (not (every (within 32 126) s) ≡ false) × (k ≡ checksum_of s)) _ _ _ (λ t c. (ap not t, c)) (λ _ z. absurd (h z)) e
+pub printed : (s : List ℕ) (k : ℕ) → Some k ≡ printed_sum s → (not (every (within 32 126) s) ≡ false) × (k ≡ checksum_of s)
+printed s k = each (λ (x : Option ℕ). Some k ≡ x → (not (every (within 32 126) s) ≡ false) × (k ≡ checksum_of s)) _ _ _ (λ t c. (ap not t, cc)) (λ _ z. cc)
 
-pub all_printed : (s : List ℕ) (k : ℕ) → k ≡ printed_sum s → (k ≡ 0 → ⊥) → not (every (within 32 126) s) ≡ false
-all_printed s k e h = (printed s k e h).0
+pub all_printed : (s : List ℕ) (k : ℕ) → Some k ≡ printed_sum s → not (every (within 32 126) s) ≡ false
+all_printed s k e = (printed s k e).0
 
-pub sum_differs : (s : List ℕ) (k : ℕ) → k ≡ printed_sum (body s) → (k ≡ 0 → ⊥) → (sum_byte s ≡ k → ⊥) → wrong_sum s ≡ true
+pub sum_differs : (s : List ℕ) (k : ℕ) → Some k ≡ printed_sum (body s) → (sum_byte s ≡ k → ⊥) → wrong_sum s ≡ true
 unfolding wrong_sum
-sum_differs s k e h d = rw (← (printed (body s) k e h).1) (not_neqb _ _ d)
+sum_differs s k e d = rw (← (printed (body s) k e).1) (not_neqb _ _ d)
 
-pub sum_agrees : (s : List ℕ) (k : ℕ) → k ≡ printed_sum (body s) → (k ≡ 0 → ⊥) → sum_byte s ≡ k → wrong_sum s ≡ false
+pub sum_agrees : (s : List ℕ) (k : ℕ) → Some k ≡ printed_sum (body s) → sum_byte s ≡ k → wrong_sum s ≡ false
 unfolding wrong_sum
-sum_agrees s k e h a = rw (← (printed (body s) k e h).1) (not_eqb _ _ a)
+sum_agrees s k e a = rw (← (printed (body s) k e).1) (not_eqb _ _ a)
 
 pub ruleset sums = (not_printed, all_printed, sum_differs, sum_agrees)
 
@@ -82,70 +83,85 @@ fits s =
     (λ l e. record { six = (within_true 6 12 (length s) e).0; ten = λ k. absurd (true≢false (sym l ∙ k)) })
     (λ _ e. absurd (false≢true e)))
 
-pub too_short : (s : List ℕ) → length s < 6 → false ≡ length_fits s
-unfolding length_fits
-too_short s h =
-    each
-    (λ (x : Bool). false ≡ x)
-    _
-    _
-    _
-    (λ _. sym (lt-leb 10 (length s) (omega arith)) ∙ out_low 10 109 (length s) (omega arith))
-    (λ _.
-    each
-    (λ (x : Bool). false ≡ x)
-    _
-    _
-    _
-    (λ _. sym (lt-leb 6 (length s) (omega arith)) ∙ out_low 6 12 (length s) (omega arith))
-    (λ _. refl))
+-- by byte 3: a digit, a letter, another, or none
+module _ (s : List ℕ) (b : ℕ) (h : b ≡ at s 3) where
+  pub as_v2 : (r : Bool) → is_digit b ≡ true → r ≡ within 10 109 (length s) → r ≡ length_fits s
+  unfolding length_fits
+  as_v2 r d e = stop _ _ _ _ (ap is_digit (sym h) ∙ d) e
+
+  pub as_v1 : (r : Bool) → is_digit b ≡ false → is_letter b ≡ true → r ≡ within 6 12 (length s) → r ≡ length_fits s
+  unfolding length_fits
+  as_v1 r d l e = past _ _ _ _ (ap is_digit (sym h) ∙ d) (stop _ _ _ _ (ap is_letter (sym h) ∙ l) e)
+
+  pub as_other : is_digit b ≡ false → is_letter b ≡ false → false ≡ length_fits s
+  unfolding length_fits
+  as_other d l = past _ _ _ _ (ap is_digit (sym h) ∙ d) (past _ _ _ _ (ap is_letter (sym h) ∙ l) refl)
+
+pub too_short : (s : List ℕ) → length s ≤ 3 → false ≡ length_fits s
+unfolding length_fits is_letter within pick
+too_short s h = let e : at s 3 ≡ 0 = sym (at_past s 3 h) in rw e
 
 -- ---- refusals
 
 -- the first of 2, 3 and 4 that applies
-abbrev pub refusals : List ℕ → ℕ
-refusals s = first (misshapen s ⇒ 2 ∷ wrong_sum s ⇒ 3 ∷ wrong_address s ⇒ 4 ∷ []) 0
+abbrev pub checked : List ℕ → Result (Unit {0}) Refusal
+checked s = first (misshapen s ⇒ Err Refusal.Shape ∷ wrong_sum s ⇒ Err Refusal.Checksum ∷ wrong_address s ⇒ Err Refusal.Address ∷ []) (Ok (tt {0}))
 
 -- with the tests of the shape in their order
-pub refusal_rows : (s : List ℕ)
-    → refusals s
+pub checked_rows : (s : List ℕ)
+    → checked s
     ≡ first
-    (not (length_fits s) ⇒ 2
-    ∷ not (eqb (last_byte s) 13) ⇒ 2
-    ∷ eqb (sum_byte s) 13 ⇒ 2
-    ∷ not (every (within 32 126) (body s)) ⇒ 2
-    ∷ wrong_sum s ⇒ 3
-    ∷ wrong_address s ⇒ 4
+    (not (length_fits s) ⇒ Err Refusal.Shape
+    ∷ not (eqb (last_byte s) 13) ⇒ Err Refusal.Shape
+    ∷ eqb (sum_byte s) 13 ⇒ Err Refusal.Shape
+    ∷ not (every (within 32 126) (body s)) ⇒ Err Refusal.Shape
+    ∷ wrong_sum s ⇒ Err Refusal.Checksum
+    ∷ wrong_address s ⇒ Err Refusal.Address
     ∷ [])
-    0
+    (Ok (tt {0}))
 unfolding misshapen pick
-refusal_rows s =
-    go (not (length_fits s)) (not (eqb (last_byte s) 13)) (eqb (sum_byte s) 13) (not (every (within 32 126) (body s))) (first (wrong_sum s ⇒ 3 ∷ wrong_address s ⇒ 4 ∷ []) 0)
+checked_rows s =
+    go (not (length_fits s)) (not (eqb (last_byte s) 13)) (eqb (sum_byte s) 13) (not (every (within 32 126) (body s))) (first (wrong_sum s ⇒ Err Refusal.Checksum ∷ wrong_address s ⇒ Err Refusal.Address ∷ []) (Ok (tt {0})))
   where
-    go : (a b c d : Bool) (n : ℕ) → pick (pick a true (pick b true (pick c true (pick d true false)))) 2 n ≡ pick a 2 (pick b 2 (pick c 2 (pick d 2 n)))
-    go true b c d n = refl
-    go false true c d n = refl
-    go false false true d n = refl
-    go false false false true n = refl
-    go false false false false n = refl
+    go : (a b c d : Bool) (r : Result (Unit {0}) Refusal)
+        → pick (pick a true (pick b true (pick c true (pick d true false)))) (Err Refusal.Shape) r
+        ≡ pick a (Err Refusal.Shape) (pick b (Err Refusal.Shape) (pick c (Err Refusal.Shape) (pick d (Err Refusal.Shape) r)))
+    go true b c d r = refl
+    go false true c d r = refl
+    go false false true d r = refl
+    go false false false true r = refl
+    go false false false false r = refl
 
 -- bytes that are not refused
-pub shaped : (s : List ℕ) (k : ℕ) → k ≡ refusals s → k ≡ 0 → Enough s
-shaped s k e z =
-    each (λ (x : ℕ). 0 ≡ x → Enough s) _ _ _ (λ _ h. absurd (omega arith)) (λ t _. fits s (not-false _ t)) (sym z ∙ e ∙ refusal_rows s)
+pub shaped : (s : List ℕ) → Ok (tt {0}) ≡ checked s → Enough s
+shaped s e =
+    each (λ (x : Result (Unit {0}) Refusal). Ok (tt {0}) ≡ x → Enough s) _ _ _ (λ _ h. cc) (λ t _. fits s (not-false _ t)) (e ∙ checked_rows s)
 
--- bytes as a frame, with one row for the refusals
-pub frame_rows : (s : List ℕ) (k : ℕ) → k ≡ refusals s
-    → frame_of s ≡ first (not (eqb k 0) ⇒ Silent k ∷ is_letter (at s 3) ⇒ V1 (head_v1 s) ∷ wrong_length s ⇒ Length (head_v2 s) ∷ []) (V2 (head_v2 s))
+-- bytes as a frame: refused, or not
+pub frame_refused : (s : List ℕ) (k : Refusal) → Err k ≡ checked s → Err k ≡ frame_of s
 unfolding frame_of pick
-frame_rows s k e = rw e (go (misshapen s) (wrong_sum s) (wrong_address s) (first (is_letter (at s 3) ⇒ V1 (head_v1 s) ∷ wrong_length s ⇒ Length (head_v2 s) ∷ []) (V2 (head_v2 s))))
+frame_refused s k e = go (misshapen s) (wrong_sum s) (wrong_address s) (first (is_letter (at s 3) ⇒ Ok (V1 (head_v1 s)) ∷ wrong_length s ⇒ Ok (Length (head_v2 s)) ∷ []) (Ok (V2 (head_v2 s)))) e
   where
-    go : (a b c : Bool) (f : Frame)
-        → pick a (Silent 2) (pick b (Silent 3) (pick c (Silent 4) f)) ≡ pick (not (eqb (pick a 2 (pick b 3 (pick c 4 0))) 0)) (Silent (pick a 2 (pick b 3 (pick c 4 0)))) f
-    go true b c f = refl
-    go false true c f = refl
-    go false false true f = refl
-    go false false false f = refl
+    go : (a b c : Bool) (f : Result Frame Refusal)
+        → Err k ≡ pick a (Err Refusal.Shape) (pick b (Err Refusal.Checksum) (pick c (Err Refusal.Address) (Ok (tt {0}))))
+        → Err k ≡ pick a (Err Refusal.Shape) (pick b (Err Refusal.Checksum) (pick c (Err Refusal.Address) f))
+    go true b c f e = cc
+    go false true c f e = cc
+    go false false true f e = cc
+    go false false false f e = cc
+
+pub frame_rows : (s : List ℕ) → Ok (tt {0}) ≡ checked s
+    → frame_of s ≡ first (is_letter (at s 3) ⇒ Ok (V1 (head_v1 s)) ∷ wrong_length s ⇒ Ok (Length (head_v2 s)) ∷ []) (Ok (V2 (head_v2 s)))
+unfolding frame_of pick
+frame_rows s e = go (misshapen s) (wrong_sum s) (wrong_address s) (first (is_letter (at s 3) ⇒ Ok (V1 (head_v1 s)) ∷ wrong_length s ⇒ Ok (Length (head_v2 s)) ∷ []) (Ok (V2 (head_v2 s)))) e
+  where
+    go : (a b c : Bool) (f : Result Frame Refusal)
+        → Ok (tt {0}) ≡ pick a (Err Refusal.Shape) (pick b (Err Refusal.Checksum) (pick c (Err Refusal.Address) (Ok (tt {0}))))
+        → pick a (Err Refusal.Shape) (pick b (Err Refusal.Checksum) (pick c (Err Refusal.Address) f)) ≡ f
+    go true b c f e = cc
+    go false true c f e = cc
+    go false false true f e = cc
+    go false false false f e = refl
 
 -- a last row that gives true, with false otherwise, is its test
 pub last_row : (t : Bool) → t ≡ pick t true false

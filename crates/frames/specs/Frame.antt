@@ -1,12 +1,14 @@
 -- Document 01, "Text frames": any bytes read as a frame, or refused with 2, 3, 4 or 6.
-use Rattle.std.specs.Prelude.{ℕ, ◌-◌, Bool, true, false, not, ◌||◌, List, [], ◌∷◌, length, take, drop, ◌==◌, nat_eq}
+use Rattle.std.specs.Prelude.{ℕ, ◌-◌, Bool, true, false, not, ◌||◌, List, [], ◌∷◌, length, take, drop, ◌==◌, nat_eq, Err, Ok, Result}
 use Rattle.buffer.specs.First.{◌⇒◌, first}
 use Rattle.buffer.specs.Byte.{at, within, is_digit, every, numeral}
 use Rattle.frames.specs.Checksum.{checksum_of}
 use Rattle.frames.specs.declared.HeadV1.{HeadV1}
 use Rattle.frames.specs.declared.HeadV2.{HeadV2}
 use Rattle.frames.specs.declared.Frame.{Frame}
-use Rattle.frames.specs.declared.Frame.TheVariants.{Silent, V1, Length, V2}
+use Rattle.frames.specs.declared.Frame.TheVariants.{V1, Length, V2}
+use Rattle.refusals.specs.Number.{refusal_number}
+use Rattle.refusals.specs.declared.Refusal.{Refusal}
 
 -- "a letter A-Z or a-z"
 unfoldable pub is_letter : ℕ → Bool
@@ -80,20 +82,20 @@ head_v2 s = record { address = address_of s; access = at s 3; first = at s 4; se
 
 -- what bytes are as a frame: the first refusal that applies, in the order of document 01's table. (5 OTHER stands between 4 and 6, and
 -- is the gauge's own: so a frame that is refused with 6 tells its head.)
-unfoldable pub frame_of : List ℕ → Frame
+unfoldable pub frame_of : List ℕ → Result Frame Refusal
 frame_of s =
     first
-    (misshapen s ⇒ Silent 2
-    ∷ wrong_sum s ⇒ Silent 3
-    ∷ wrong_address s ⇒ Silent 4
-    ∷ is_letter (at s 3) ⇒ V1 (head_v1 s)
-    ∷ wrong_length s ⇒ Length (head_v2 s)
+    (misshapen s ⇒ Err Refusal.Shape
+    ∷ wrong_sum s ⇒ Err Refusal.Checksum
+    ∷ wrong_address s ⇒ Err Refusal.Address
+    ∷ is_letter (at s 3) ⇒ Ok (V1 (head_v1 s))
+    ∷ wrong_length s ⇒ Ok (Length (head_v2 s))
     ∷ [])
-    (V2 (head_v2 s))
+    (Ok (V2 (head_v2 s)))
 
 -- document 01's number for each answer: 0 where the bytes are a frame
-unfoldable pub frame_number : Frame → ℕ
-frame_number (Silent k) = k
-frame_number (V1 h) = 0
-frame_number (Length h) = 6
-frame_number (V2 h) = 0
+unfoldable pub frame_number : Result Frame Refusal → ℕ
+frame_number (Err k) = refusal_number k
+frame_number (Ok (V1 h)) = 0
+frame_number (Ok (Length h)) = 6
+frame_number (Ok (V2 h)) = 0

@@ -5,6 +5,7 @@ use mathlib.Core.List.{List, [], ◌∷◌, ◌++◌}
 use Prim.Native.Nat.{ℕ, ◌≤◌}
 use native.Mathlib.Omega.{arith}
 use lib.ListN.{length, length-take, length-drop}
+use Rattle.std.specs.Prelude.{Ok}
 use Rattle.buffer.specs.Byte.{at, every, digits2, digits3}
 use Rattle.frames.specs.Checksum.{closed}
 use Rattle.frames.specs.Frame.{is_letter, body, data_from, address_of, wrong_length, head_v1, head_v2, frame_of}
@@ -60,12 +61,12 @@ module _ (s : List ℕ) (f : Framed s) (l : is_letter (at s 3) ≡ false) where
 pub frame_exactly_v2 : FrameExactlyV2
 frame_exactly_v2 s h d = (read, written)
   where
-    read : (frame_of s ≡ V2 h) × (data_from 8 s ≡ d) → SendableV2 h d × (s ≡ frame_v2 h d)
+    read : (frame_of s ≡ Ok (V2 h)) × (data_from 8 s ≡ d) → SendableV2 h d × (s ≡ frame_v2 h d)
     read e =
-        let t : Tells s (V2 h) = rw e.0 at (tells s) in
+        let t : Tells s (Ok (V2 h)) = rw e.0 at (tells s) in
         rw (t.3, ← e.1) (sendable2 s t.0 t.1, frame_is2 s t.0 t.1 t.2)
 
-    written : SendableV2 h d × (s ≡ frame_v2 h d) → (frame_of s ≡ V2 h) × (data_from 8 s ≡ d)
+    written : SendableV2 h d × (s ≡ frame_v2 h d) → (frame_of s ≡ Ok (V2 h)) × (data_from 8 s ≡ d)
     written e =
         let b = read_back_v2 h d e.0 in
         rw e.1 (b.head, b.rest)
@@ -99,12 +100,12 @@ module _ (s : List ℕ) (f : Framed s) (l : is_letter (at s 3) ≡ true) where
 pub frame_exactly_v1 : FrameExactlyV1
 frame_exactly_v1 s h d = (read, written)
   where
-    read : (frame_of s ≡ V1 h) × (data_from 4 s ≡ d) → SendableV1 h d × (s ≡ frame_v1 h d)
+    read : (frame_of s ≡ Ok (V1 h)) × (data_from 4 s ≡ d) → SendableV1 h d × (s ≡ frame_v1 h d)
     read e =
-        let t : Tells s (V1 h) = rw e.0 at (tells s) in
+        let t : Tells s (Ok (V1 h)) = rw e.0 at (tells s) in
         rw (t.2, ← e.1) (sendable1 s t.0 t.1, frame_is1 s t.0 t.1)
 
-    written : SendableV1 h d × (s ≡ frame_v1 h d) → (frame_of s ≡ V1 h) × (data_from 4 s ≡ d)
+    written : SendableV1 h d × (s ≡ frame_v1 h d) → (frame_of s ≡ Ok (V1 h)) × (data_from 4 s ≡ d)
     written e =
         let b = read_back_v1 h d e.0 in
         rw e.1 (b.head, b.rest)

@@ -8,6 +8,8 @@ use native.Mathlib.Omega.{arith}
 use borrow.Author.Tests.{eq-eqb, ne_eqb}
 use lib.ListN.{length, take, drop, length-append}
 use lib.Seq.{take_at, get_or_at, get_or-append-add}
+use Rattle.refusals.specs.declared.Refusal.{Refusal}
+use Rattle.std.specs.Prelude.{Ok, Result}
 use Rattle.buffer.specs.First.{pick}
 use Rattle.buffer.specs.Byte.{at, within, is_digit, every, numeral_from, numeral, digit, digits2, digits3}
 use Rattle.buffer.proofs.Rules.{past, stop}
@@ -17,6 +19,7 @@ use Rattle.frame_writer.specs.Written.{frame_v2, frame_v1}
 use Rattle.frame_writer.specs.Sendable.{SendableV2, SendableV1}
 use Rattle.frames.specs.declared.HeadV1.{HeadV1}
 use Rattle.frames.specs.declared.HeadV2.{HeadV2}
+use Rattle.frames.specs.declared.Frame.{Frame}
 use Rattle.frames.specs.declared.Frame.TheVariants.{V1, V2}
 use Rattle.buffer.proofs.Laws.{within_true, within_in, within_below, within_above}
 use Rattle.frames_facts.specs.ReadBack.{ReadV2, ReadV1}
@@ -137,11 +140,11 @@ module _ (h : HeadV2) (bytes : List ℕ) (ok : SendableV2 h bytes) where
   unfolding closed
   address2 = address_right (closed body2) h.address ok.address_in refl
 
-  head2 : V2 h ≡ V2 (head_v2 (closed body2))
+  head2 : ◌≡◌ {A = Result Frame Refusal} (Ok (V2 h)) (Ok (V2 (head_v2 (closed body2))))
   unfolding head_v2 closed
   head2 = rw (address_back h.address (within_true 1 999 h.address ok.address_in).1)
 
-  read2 : V2 h ≡ frame_of (closed body2)
+  read2 : Ok (V2 h) ≡ frame_of (closed body2)
   unfolding frame_of
   read2 =
       past
@@ -191,11 +194,11 @@ module _ (h : HeadV1) (bytes : List ℕ) (ok : SendableV1 h bytes) where
   unfolding closed
   address1 = address_right (closed body1) h.address ok.address_in refl
 
-  head1 : V1 h ≡ V1 (head_v1 (closed body1))
+  head1 : ◌≡◌ {A = Result Frame Refusal} (Ok (V1 h)) (Ok (V1 (head_v1 (closed body1))))
   unfolding head_v1 closed
   head1 = rw (address_back h.address (within_true 1 999 h.address ok.address_in).1)
 
-  read1 : V1 h ≡ frame_of (closed body1)
+  read1 : Ok (V1 h) ≡ frame_of (closed body1)
   unfolding frame_of
   read1 = past _ _ _ _ (shape_right body1 fits1 prints1) (past _ _ _ _ (sum_right body1) (past _ _ _ _ address1 (stop _ _ _ _ letter head1)))
 

@@ -7,6 +7,7 @@ use native.Mathlib.Omega.{arith}
 use borrow.Author.Tests.{not-false, eqb-true, eqb-false}
 use lib.ListN.{length, take, drop, length-take, length-drop, drop_of_length-le}
 use lib.Seq.{take-take, get_or-take, split_at, drop-cons}
+use Rattle.std.specs.Prelude.{Err, Ok, Result}
 use Rattle.buffer.specs.First.{pick}
 use Rattle.buffer.specs.Byte.{at, within, is_digit, every, numeral_from, numeral, digits2, digits3}
 use Rattle.buffer.proofs.Laws.{within_true, within_in, within_below, part_middle}
@@ -14,7 +15,8 @@ use Rattle.buffer.proofs.Rules.{each}
 use Rattle.frames.specs.Checksum.{checksum_of, end_of, closed}
 use Rattle.frames.specs.Frame.{is_letter, body, sum_byte, last_byte, data_from, address_of, length_fits, misshapen, wrong_sum, wrong_address, wrong_length, head_v1, head_v2, frame_of}
 use Rattle.frames.specs.declared.Frame.{Frame}
-use Rattle.frames.specs.declared.Frame.TheVariants.{Silent, V1, Length, V2}
+use Rattle.frames.specs.declared.Frame.TheVariants.{V1, Length, V2}
+use Rattle.refusals.specs.declared.Refusal.{Refusal}
 
 -- ---- tests
 
@@ -109,11 +111,11 @@ pub record Framed (s : List ℕ) : Type 0 where
   pub address : wrong_address s ≡ false
 
 -- what the reading of bytes as a frame tells of them
-abbrev pub Tells : List ℕ → Frame → Type 0
-Tells s (Silent k) = Unit {0}
-Tells s (V1 h) = Framed s × (is_letter (at s 3) ≡ true) × (h ≡ head_v1 s)
-Tells s (Length h) = Framed s × (is_letter (at s 3) ≡ false) × (wrong_length s ≡ true) × (h ≡ head_v2 s)
-Tells s (V2 h) = Framed s × (is_letter (at s 3) ≡ false) × (wrong_length s ≡ false) × (h ≡ head_v2 s)
+abbrev pub Tells : List ℕ → Result Frame Refusal → Type 0
+Tells s (Err k) = Unit {0}
+Tells s (Ok (V1 h)) = Framed s × (is_letter (at s 3) ≡ true) × (h ≡ head_v1 s)
+Tells s (Ok (Length h)) = Framed s × (is_letter (at s 3) ≡ false) × (wrong_length s ≡ true) × (h ≡ head_v2 s)
+Tells s (Ok (V2 h)) = Framed s × (is_letter (at s 3) ≡ false) × (wrong_length s ≡ false) × (h ≡ head_v2 s)
 
 pub tells : (s : List ℕ) → Tells s (frame_of s)
 unfolding frame_of
@@ -145,7 +147,7 @@ module _ (s : List ℕ) (f : Framed s) where
   unfolding misshapen
   prints = not-false _ (rows_false _ _ (rows_false _ _ (rows_false _ _ (rows_false _ _ f.shape).1).1).1).0
 
-  -- "Byte 3 decides": a V1 frame
+  -- "Byte 3 decides": a (Ok (V1 frame))
   pub six_to_twelve : is_letter (at s 3) ≡ true → (6 ≤ length s) × (length s ≤ 12)
   unfolding length_fits
   six_to_twelve l =
@@ -154,7 +156,7 @@ module _ (s : List ℕ) (f : Framed s) where
       P : Bool → Type 0
       P b = b ≡ true → (6 ≤ length s) × (length s ≤ 12)
 
-  -- and a V2 frame
+  -- and a (Ok (V2 frame))
   pub access_digit : is_letter (at s 3) ≡ false → (is_digit (at s 3) ≡ true) × (10 ≤ length s) × (length s ≤ 109)
   unfolding length_fits
   access_digit l =

@@ -1,5 +1,5 @@
 -- What is proved here, each statement as a type; proofs/ has the proofs.
-use Rattle.std.specs.Prelude.{◌≡◌, List, ◌↔◌, true, ℕ, ◌≤◌, length}
+use Rattle.std.specs.Prelude.{◌≡◌, List, ◌↔◌, true, ℕ, ◌≤◌, length, Ok}
 use Rattle.frames.specs.Frame.{data_from, frame_of}
 use Rattle.frames.specs.declared.HeadV2.{HeadV2}
 use Rattle.frames.specs.declared.Frame.TheVariants.{V2, V1}
@@ -13,11 +13,11 @@ use Rattle.frames_facts.specs.Examples.{right, cases, well, sendings, answered, 
 -- "V2: address (3 bytes), access code (1), command (2), LEN (2 digits), data (0 to 99), checksum, CR (13).": bytes are read as a head with data
 -- exactly if these can be sent and the bytes are their frame
 abbrev pub FrameExactlyV2 : Type 0
-FrameExactlyV2 = (s : List ℕ) (h : HeadV2) (d : List ℕ) → ((frame_of s ≡ V2 h) × (data_from 8 s ≡ d)) ↔ (SendableV2 h d × (s ≡ frame_v2 h d))
+FrameExactlyV2 = (s : List ℕ) (h : HeadV2) (d : List ℕ) → ((frame_of s ≡ Ok (V2 h)) × (data_from 8 s ≡ d)) ↔ (SendableV2 h d × (s ≡ frame_v2 h d))
 
 -- "V1 request: address, one letter, data (0 to 6), checksum, CR": the same
 abbrev pub FrameExactlyV1 : Type 0
-FrameExactlyV1 = (s : List ℕ) (h : HeadV1) (d : List ℕ) → ((frame_of s ≡ V1 h) × (data_from 4 s ≡ d)) ↔ (SendableV1 h d × (s ≡ frame_v1 h d))
+FrameExactlyV1 = (s : List ℕ) (h : HeadV1) (d : List ℕ) → ((frame_of s ≡ Ok (V1 h)) × (data_from 4 s ≡ d)) ↔ (SendableV1 h d × (s ≡ frame_v1 h d))
 
 -- a V2 frame of what can be sent is read as what was sent
 abbrev pub ReadBackV2 : Type 0
@@ -46,12 +46,12 @@ AcceptedExactlyV1 = (room : ℕ) (h : HeadV1) (d : List ℕ) → ((written_v1 ro
 -- whatever a writer accepted, read again, is the same head and data
 abbrev pub WrittenReadV2 : Type 0
 WrittenReadV2 = (room : ℕ) (h : HeadV2) (d : List ℕ) → (written_v2 room h d).number ≡ 0
-    → (frame_of (written_v2 room h d).reply ≡ V2 h) × (data_from 8 (written_v2 room h d).reply ≡ d)
+    → (frame_of (written_v2 room h d).reply ≡ Ok (V2 h)) × (data_from 8 (written_v2 room h d).reply ≡ d)
 
 -- and for V1
 abbrev pub WrittenReadV1 : Type 0
 WrittenReadV1 = (room : ℕ) (h : HeadV1) (d : List ℕ) → (written_v1 room h d).number ≡ 0
-    → (frame_of (written_v1 room h d).reply ≡ V1 h) × (data_from 4 (written_v1 room h d).reply ≡ d)
+    → (frame_of (written_v1 room h d).reply ≡ Ok (V1 h)) × (data_from 4 (written_v1 room h d).reply ≡ d)
 
 -- the worked cases: each text is read with the paper's number
 abbrev pub AllRead : Type 0

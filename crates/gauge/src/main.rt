@@ -1,8 +1,7 @@
 #![tactic(auto)]
 // The simulated text gauge as a program: text requests from standard input, each up to its CR, are answered on standard output. Arguments are
 // bench settings for the start, each SOURCE=VALUE, and profile=vsh or profile=vsm for a gauge of that profile.
-ghost use Rattle.std.specs.Prelude.{◌≤◌, length};
-
+use gauge_rules::Gauge;
 use sources::Profile;
 use std::env::{Env, FillError};
 use std::io;
@@ -16,107 +15,97 @@ const LARGE: usize = 65536;
 
 // ---- arguments
 
-// A gauge, and whether each setting so far was accepted.
+// What is wrong with an argument.
 #[derive(Clone, Copy)]
-struct Started {
-    gauge: gauge_rules::Gauge,
-    ok: bool,
+enum Wrong {
+    Malformed,
+    Refused,
+    Profile,
+}
+
+impl Wrong {
+    fn why(self) -> &'static [u8] {
+        match self {
+            Wrong::Malformed => {
+                b"' is not SOURCE=VALUE: a source is 0, 1, 2, 6, 7, T2, T6 or FS, a value a decimal, UR, OR or ERROR1\n"
+            }
+            Wrong::Refused => b"' is refused by the bench (15)\n",
+            Wrong::Profile => {
+                b"' names no profile, or a second one: profile=vsh or profile=vsm\n"
+            }
+        }
+    }
 }
 
 // The line that says what is wrong with an argument.
-fn complain(err: &impl Print, word: &[u8], why: &[u8]) {
+fn complain(err: &impl Print, word: &[u8], wrong: Wrong) {
     let _ = err.write_all(b"gauge: argument '");
     let _ = err.write_all(word);
-    let _ = err.write_all(why);
-}
-
-fn refused(err: &impl Print, g: gauge_rules::Gauge, word: &[u8], why: &[u8]) -> Started {
-    complain(err, word, why);
-    Started {
-        gauge: g,
-        ok: false,
-    }
-}
-
-fn malformed(err: &impl Print, g: gauge_rules::Gauge, word: &[u8]) -> Started {
-    refused(
-        err,
-        g,
-        word,
-        b"' is not SOURCE=VALUE: a source is 0, 1, 2, 6, 7, T2, T6 or FS, a value a decimal, UR, OR or ERROR1\n",
-    )
+    let _ = err.write_all(wrong.why());
 }
 
 // The gauge with one setting more.
-fn set(err: &impl Print, g: gauge_rules::Gauge, word: &[u8], b: readings::Bench) -> Started {
+fn set(g: Gauge, b: readings::Bench) -> Result<Gauge, Wrong> {
     let a = text_gauge::set_bench(g, b);
     if a.number != 0 {
-        return refused(err, g, word, b"' is refused by the bench (15)\n");
+        return Err(Wrong::Refused);
     }
-    let gauge = a.gauge;
-    Started { gauge, ok: true }
+    Ok(a.gauge)
 }
 
-// Whether a word names a profile. The third has no word.
-fn is_named(word: &[u8], profile: Profile) -> bool {
-    match profile {
-        Profile::Standard => false,
-        Profile::Vsh => buffer::is_same(word, b"profile=vsh"),
-        Profile::Vsm => buffer::is_same(word, b"profile=vsm"),
+// The profile that an argument names. The third has no word.
+fn profile_of(word: &[u8]) -> Option<Profile> {
+    match word {
+        b"profile=vsh" => Some(Profile::Vsh),
+        b"profile=vsm" => Some(Profile::Vsm),
+        _ => None,
     }
 }
 
-// The gauge, where a word names its profile.
-fn with_profile(err: &impl Print, g: gauge_rules::Gauge, word: &[u8]) -> Started {
-    let profile = g.profile;
-    if !is_named(word, profile) {
-        return refused(
-            err,
-            g,
-            word,
-            b"' names no profile, or a second one: profile=vsh or profile=vsm\n",
-        );
+// The gauge, where an argument names its profile.
+fn with_profile(g: Gauge, word: &[u8]) -> Result<Gauge, Wrong> {
+    match (profile_of(word), g.profile) {
+        (Some(Profile::Vsh), Profile::Vsh) | (Some(Profile::Vsm), Profile::Vsm) => Ok(g),
+        _ => Err(Wrong::Profile),
     }
-    Started { gauge: g, ok: true }
 }
 
 // The gauge with the setting of one argument.
-fn with_word(err: &impl Print, g: gauge_rules::Gauge, word: &[u8]) -> Started {
-    let n = buffer::until(word, b'=');
-    if word.len() <= n {
-        return malformed(err, g, word);
-    }
-    if buffer::is_same(&word[..n], b"profile") {
-        return with_profile(err, g, word);
-    }
-    match bench_words::read_setting(&word[..n], buffer::rest(word, n + 1)) {
-        bench_words::Worded::Is(b) => set(err, g, word, b),
-        bench_words::Worded::Refused => malformed(err, g, word),
-    }
-}
-
-// The gauge with the setting of argument i. One that is too long for any setting is named by its first bytes.
-fn with_argument(args: &impl Env, err: &impl Print, g: gauge_rules::Gauge, i: usize) -> Started {
-    let mut word = [0u8; WORD_MAX];
-    match args.arg(i, &mut word) {
-        Ok(n) => with_word(err, g, &word[..n]),
-        Err(_) => malformed(err, g, &word),
+fn with_word(g: Gauge, word: &[u8]) -> Result<Gauge, Wrong> {
+    let n = word
+        .iter()
+        .position(|b| *b == b'=')
+        .ok_or(Wrong::Malformed)?;
+    match (&word[..n], &word[n + 1..]) {
+        (b"profile", _) => with_profile(g, word),
+        (source, value) => match bench_words::read_setting(source, value) {
+            Some(b) => set(g, b),
+            None => Err(Wrong::Malformed),
+        },
     }
 }
 
-// The profile that argument i names, or the third.
-fn profile_at(args: &impl Env, i: usize) -> Profile {
-    let mut word = [0u8; WORD_MAX];
-    let Ok(n) = args.arg(i, &mut word) else {
-        return Profile::Standard;
+// The gauge with the setting of argument i, or none where it is wrong. One that is too long for any setting is named by its first bytes.
+fn with_argument(args: &impl Env, err: &impl Print, g: Gauge, i: usize) -> Option<Gauge> {
+    let mut buf = [0u8; WORD_MAX];
+    let (word, set): (&[u8], Result<Gauge, Wrong>) = match args.arg(i, &mut buf) {
+        Ok(n) => (&buf[..n], with_word(g, &buf[..n])),
+        Err(_) => (&buf, Err(Wrong::Malformed)),
     };
-    if is_named(&word[..n], Profile::Vsh) {
-        return Profile::Vsh;
+    match set {
+        Ok(h) => Some(h),
+        Err(wrong) => {
+            complain(err, word, wrong);
+            None
+        }
     }
-    if is_named(&word[..n], Profile::Vsm) {
-        return Profile::Vsm;
-    }
-    Profile::Standard
+}
+
+// The profile that argument i names.
+fn profile_at(args: &impl Env, i: usize) -> Option<Profile> {
+    let mut buf = [0u8; WORD_MAX];
+    let n = args.arg(i, &mut buf).ok()?;
+    profile_of(&buf[..n])
 }
 
 // How many arguments the program was started with, its own name among them.
@@ -132,32 +121,39 @@ fn arg_count(args: &impl Env) -> usize {
 
 // The profile that the arguments name first, or the third.
 fn chosen(args: &impl Env, count: usize) -> Profile {
-    for i in 1..count {
-        match profile_at(args, i) {
-            Profile::Standard => (),
-            Profile::Vsh => return Profile::Vsh,
-            Profile::Vsm => return Profile::Vsm,
-        }
-    }
-    Profile::Standard
+    (1..count)
+        .find_map(|i| profile_at(args, i))
+        .unwrap_or(Profile::Standard)
 }
 
-// The gauge at its start, with the profile and the settings of all arguments.
-fn start(args: &impl Env, err: &impl Print) -> Started {
+// The gauge at its start, with the profile and the settings of all arguments, or none where one is wrong.
+fn start(args: &impl Env, err: &impl Print) -> Option<Gauge> {
     let count = arg_count(args);
-    let mut g = gauge_rules::Gauge::at_start(chosen(args, count));
-    for i in 1..count {
-        let s = with_argument(args, err, g, i);
-        if !s.ok {
-            return s;
-        }
-        let next = s.gauge;
-        g = next;
-    }
-    Started { gauge: g, ok: true }
+    let g = Gauge::at_start(chosen(args, count));
+    (1..count).try_fold(g, |h, i| with_argument(args, err, h, i))
 }
 
 // ---- requests
+
+// A stream that failed, and why. `replay` has the same lines: what they print has no contract, which a library's function needs.
+struct Failed {
+    stream: &'static str,
+    why: io::Error,
+}
+
+fn no_input(why: io::Error) -> Failed {
+    Failed {
+        stream: "standard input",
+        why,
+    }
+}
+
+fn no_output(why: io::Error) -> Failed {
+    Failed {
+        stream: "standard output",
+        why,
+    }
+}
 
 // An error's words without the system's number.
 fn without_number(text: &str) -> &str {
@@ -168,143 +164,56 @@ fn without_number(text: &str) -> &str {
 }
 
 // The line that says which stream failed, and why.
-fn fail(rt: &(impl Eprint + AllocGlobal), stream: &str, e: io::Error) {
-    let _ = match format!(in rt.alloc(); "{e}") {
+fn fail(rt: &(impl Eprint + AllocGlobal), failed: Failed) {
+    let Failed { stream, why } = failed;
+    let _ = match format!(in rt.alloc(); "{why}") {
         Ok(text) => {
-            let why = without_number(text.as_str());
-            rt.eprintln(format_args!("gauge: {stream}: {why}"))
+            let words = without_number(text.as_str());
+            rt.eprintln(format_args!("gauge: {stream}: {words}"))
         }
-        Err(_) => rt.eprintln(format_args!("gauge: {stream}: {e}")),
+        Err(_) => rt.eprintln(format_args!("gauge: {stream}: {why}")),
     };
 }
 
-// The gauge after what was read, and how many bytes of an unfinished request are kept; or nothing more can be read or written.
-#[derive(Clone, Copy)]
-struct Turn {
-    gauge: gauge_rules::Gauge,
-    kept: usize,
-    more: bool,
-}
-
-fn stop(g: gauge_rules::Gauge) -> Turn
-    ensures { result.kept ≤ 110 }
-{
-    Turn {
-        gauge: g,
-        kept: 0,
-        more: false,
-    }
-}
-
-// The gauge after the whole requests of the input, and how many bytes they have. Their replies are written.
-#[derive(Clone, Copy)]
-struct Answered {
-    gauge: gauge_rules::Gauge,
-    taken: usize,
-    written: io::Result<()>,
-}
-
-fn answer_all(rt: &impl Print, g: gauge_rules::Gauge, input: &[u8], out: &mut [u8]) -> Answered {
-    let mut h = g;
+// Answers the whole requests of the input, and says how many bytes they have. (No index is counted: each turn goes on behind what the last one served.)
+fn answer_all(rt: &impl Print, g: &mut Gauge, input: &[u8], out: &mut [u8]) -> io::Result<usize> {
     let mut at: usize = 0;
     loop {
-        let s = service::serve(h, buffer::rest(input, at), out);
-        let len = s.len;
-        let taken = s.taken;
-        let next = s.gauge;
-        h = next;
-        let written = rt.write_all(&out[..len]);
-        if written.is_err() {
-            return Answered {
-                gauge: h,
-                taken: at,
-                written,
-            };
+        let served = service::serve(*g, &input[at..], out);
+        *g = served.gauge;
+        rt.write_all(&out[..served.len])?;
+        if served.taken == 0 {
+            return Ok(at);
         }
-        if taken == 0 {
-            return Answered {
-                gauge: h,
-                taken: at,
-                written,
-            };
-        }
-        at += taken;
+        at += served.taken;
     }
 }
 
-// Reads once, behind the bytes that are kept, and says where the bytes then end: where they ended before, if the input ends here or fails.
-fn read_more<R: Eprint + Input + AllocGlobal>(
-    rt: &R,
-    reader: &mut R::Reader,
-    buf: &mut [u8],
-    kept: usize,
-) -> usize
-    requires { kept ≤ length buf.old }
-    ensures { (kept ≤ result) × (result ≤ length buf.new) }
-{
-    match reader.read(&mut buf[kept..]) {
-        Ok(got) => kept + got,
-        Err(e) => {
-            fail(rt, "standard input", e);
-            kept
-        }
-    }
-}
-
-// Answers what can be read at once, and keeps the unfinished end.
-fn serve_once<R: Print + Eprint + Input + AllocGlobal>(
-    rt: &R,
-    reader: &mut R::Reader,
-    g: gauge_rules::Gauge,
-    buf: &mut [u8],
-    kept: usize,
-    out: &mut [u8],
-) -> Turn
-    requires { kept ≤ length buf.old }
-    ensures { result.kept ≤ 110 }
-{
-    let end = read_more(rt, reader, buf, kept);
-    if end == kept {
-        return stop(g);
-    }
-    let a = answer_all(rt, g, &buf[..end], out);
-    let gauge = a.gauge;
-    if let Err(e) = a.written {
-        fail(rt, "standard output", e);
-        return stop(gauge);
-    }
-    Turn {
-        gauge,
-        kept: service::keep(buf, a.taken, end),
-        more: true,
-    }
-}
-
-// Reads to the end of the input. A proved loop has to end, so it counts its turns, up to a number that no run reaches.
-fn run<R: Print + Eprint + Input + AllocGlobal>(rt: &R, g: gauge_rules::Gauge) {
+// Reads to the end of the input, answers what can be read at once, and keeps the unfinished end. A proved loop has to end, so it counts its
+// turns, up to a number that no run reaches.
+fn run<R: Print + Input>(rt: &R, start: Gauge) -> Result<(), Failed> {
     let mut reader = rt.reader();
+    let mut g = start;
     let mut input = [0u8; LARGE];
     let mut output = [0u8; LARGE];
-    let buf: &mut [u8] = &mut input;
-    let out: &mut [u8] = &mut output;
-    let mut h = g;
     let mut kept: usize = 0;
     for _ in 0..u64::MAX {
-        let t = serve_once(rt, &mut reader, h, buf, kept, out);
-        if !t.more {
-            return;
+        let got = reader.read(&mut input[kept..]).map_err(no_input)?;
+        if got == 0 {
+            return Ok(());
         }
-        let next = t.gauge;
-        h = next;
-        kept = t.kept;
+        let end = kept + got;
+        let taken = answer_all(rt, &mut g, &input[..end], &mut output).map_err(no_output)?;
+        kept = service::keep(&mut input, taken, end);
     }
+    Ok(())
 }
 
 fn main(rt: HostRuntime) {
-    let s = start(&rt, &rt.stderr());
-    let ok = s.ok;
-    let gauge = s.gauge;
-    if ok {
-        run(&rt, gauge);
+    let Some(g) = start(&rt, &rt.stderr()) else {
+        return;
+    };
+    if let Err(failed) = run(&rt, g) {
+        fail(&rt, failed);
     }
 }

@@ -5,6 +5,7 @@ use mathlib.Core.Bool.{Bool, true, false, not, ◌&&◌}
 use mathlib.Core.List.{List, [], ◌∷◌}
 use Prim.Native.Nat.{ℕ}
 use lib.Dec.{eqb}
+use Rattle.std.specs.Prelude.{Err, Ok, Result}
 use Rattle.buffer.specs.First.{pick}
 use Rattle.buffer.specs.Byte.{same_text}
 use Rattle.buffer.specs.Quoted.{bytes}
@@ -18,8 +19,6 @@ use Rattle.requests.specs.AskV2.{ask_v2, ask_list}
 use Rattle.requests.specs.declared.Command.TheVariants.{MV, T2, FN, FS, Of}
 use Rattle.requests.specs.declared.RequestV2.{RequestV2}
 use Rattle.requests.specs.declared.RequestV2.TheVariants.{Read, Restore, Set}
-use Rattle.requests.specs.declared.AskV2.{AskV2}
-use Rattle.requests.specs.declared.AskV2.TheVariants.{Asks, Refused}
 use Rattle.request_texts.specs.RequestText.{access_of, command_in}
 use Rattle.gauge_rules.specs.State.{State}
 use Rattle.gauge_rules.specs.RulesV2.{changes_cathode, reads_faulty}
@@ -29,8 +28,10 @@ use Rattle.gauge_table.specs.Decided.{decided_v2}
 use Rattle.gauge_table.proofs.DecidedV2.{decided_v2_lem}
 use Rattle.gauge_facts.specs.Columns.{cathode_held, sensor_faulty}
 use Rattle.gauge_facts.specs.Theorems.{NumberOnBytes}
-use Rattle.gauge_facts.proofs.Lemmas.Refuses.{RefusesV2, refuses_v2}
+use Rattle.gauge_table.proofs.Numbers.{some_number}
 use Rattle.gauge_facts.proofs.Lemmas.Asking.{asked_form}
+use Rattle.refusals.specs.declared.Refusal.{Refusal}
+use native.Mathlib.Omega.{arith}
 
 changes_is : (r : RequestV2) → changes_cathode r ≡ (same_text (command_text (command_in r)) (bytes "CC") && not (eqb (access_of r) read_code))
 unfolding changes_cathode command_text command_in access_of same_text
@@ -102,15 +103,15 @@ module _ (g : State) (h : HeadV2) (d : List ℕ) where
   -- bytes that pass the rows up to LOGIC in the data ask a typed request
   typed : wrong_code h.access ≡ false → unknown_command (command_of h.first h.second) ≡ false → lacks h.access (command_of h.first h.second) ≡ false
       → bad_form_v2 g.limits h.access (command_of h.first h.second) d ≡ false → outside_v2 g.limits h.access (command_of h.first h.second) d ≡ false
-      → against_logic g.limits h.access (command_of h.first h.second) d ≡ false → (r : RequestV2) × (ask_v2 g.limits h d ≡ Asks r)
+      → against_logic g.limits h.access (command_of h.first h.second) d ≡ false → (r : RequestV2) × (ask_v2 g.limits h d ≡ Ok r)
   unfolding pick breaks_rule asks_faulty decided_v2
-  typed c u l f o e = go (ask_v2 g.limits h d) (refuses_v2 g.limits h d) (rw (c, u, l, f, o, e) at (decided_v2_lem g h d))
+  typed c u l f o e = go (ask_v2 g.limits h d) (rw (c, u, l, f, o, e) at (decided_v2_lem g h d))
     where
-      go : (ask : AskV2) → RefusesV2 ask → pick (breaks_rule g ask) 12 (pick (asks_faulty g ask) 13 0) ≡ decided_v2 g ask → (r : RequestV2) × (ask ≡ Asks r)
-      go (Asks r) n z = (r, refl)
-      go (Refused k) n z = absurd (n (sym z))
+      go : (ask : Result RequestV2 Refusal) → pick (breaks_rule g ask) 12 (pick (asks_faulty g ask) 13 0) ≡ decided_v2 g ask → (r : RequestV2) × (ask ≡ Ok r)
+      go (Ok r) z = (r, refl)
+      go (Err k) z = absurd (omega (arith, some_number k))
 
-  last : (r : RequestV2) → ask_v2 g.limits h d ≡ Asks r
+  last : (r : RequestV2) → ask_v2 g.limits h d ≡ Ok r
       → ◌≡◌ {A = ℕ} (pick (breaks_rule g (ask_v2 g.limits h d)) 12 (pick (asks_faulty g (ask_v2 g.limits h d)) 13 0)) (pick (cathode_held g h.access theCommand) 12 (pick (sensor_faulty g.readings h.access theCommand) 13 0))
   unfolding breaks_rule asks_faulty
   last r e =

@@ -6,6 +6,7 @@ use mathlib.Core.List.{List, [], ◌∷◌}
 use Prim.Native.Nat.{ℕ}
 use native.Mathlib.Omega.{arith}
 use borrow.Author.Tests.{eqb-true, eq-eqb, ltb-false, le-ltb, not-false}
+use Rattle.std.specs.Prelude.{Ok}
 use Rattle.buffer.specs.First.{pick}
 use Rattle.buffer.specs.Byte.{at, within}
 use Rattle.buffer.proofs.Laws.{within_in}
@@ -19,9 +20,7 @@ use Rattle.frames_facts.proofs.Exactly.{frame_exactly_v1, frame_exactly_v2}
 use Rattle.requests.specs.Command.{command_text}
 use Rattle.requests.specs.AskV2.{ask_v2, ask_list}
 use Rattle.requests.specs.declared.RequestV2.{RequestV2}
-use Rattle.requests.specs.declared.AskV2.{AskV2}
 use Rattle.requests.specs.declared.RequestV1.{RequestV1}
-use Rattle.requests.specs.declared.AskV1.{AskV1}
 use Rattle.request_texts.specs.RequestText.{access_of, command_in, head_for, letter_v1, head_for_v1}
 use Rattle.forms_facts.specs.Sound.{Proper}
 use Rattle.gauge_rules.specs.State.{State}
@@ -45,8 +44,8 @@ use Rattle.gauge_facts.proofs.Lemmas.AskingV1.{asked_v1_exactly, carried_v1, gra
 module _ (g : State) (room : ℕ) (s : List ℕ) where
   -- ---- what is accepted satisfies the paper
 
-  -- past the table's rows the bytes are a V2 frame
-  is_frame_lem : is_v1 s ≡ false → Passed g room s → frame_of s ≡ V2 (head_v2 s)
+  -- past the table's rows the bytes are a (Ok (V2 frame))
+  is_frame_lem : is_v1 s ≡ false → Passed g room s → frame_of s ≡ Ok (V2 (head_v2 s))
   unfolding frame_of pick
   is_frame_lem l p = rw (p.framed.shape, p.framed.sum, p.framed.address, l, p.counted l)
 
@@ -62,11 +61,11 @@ module _ (g : State) (room : ℕ) (s : List ℕ) where
       let q : at s 5 ≡ at (command_text (command_in r)) 1 = ap (λ (t : List ℕ). at t 1) e in
       rw (a, c, p, q)
 
-  grants : (r : RequestV2) → number_of g room s ≡ 0 → is_v1 s ≡ false → asked_v2 g.limits s ≡ AskV2.Asks r → grant_v2 g r ≡ 0
+  grants : (r : RequestV2) → number_of g room s ≡ 0 → is_v1 s ≡ false → asked_v2 g.limits s ≡ Ok r → grant_v2 g r ≡ 0
   unfolding decided_v2
   grants r z l e = rw e at (decided_as_v2 g room s z l)
 
-  to : Proper g.limits → (r : RequestV2) (list : List ℕ) → is_v1 s ≡ false → number_of g room s ≡ 0 → asked_v2 g.limits s ≡ AskV2.Asks r → asked_list g.limits s ≡ list → (d : List ℕ) × Satisfies g room s r list d
+  to : Proper g.limits → (r : RequestV2) (list : List ℕ) → is_v1 s ≡ false → number_of g room s ≡ 0 → asked_v2 g.limits s ≡ Ok r → asked_list g.limits s ≡ list → (d : List ℕ) × Satisfies g room s r list d
   unfolding head_v2
   to ok r list l z e f =
       let p = passed g room s z in
@@ -83,13 +82,13 @@ module _ (g : State) (room : ℕ) (s : List ℕ) where
         let a = f.settings.address in
         carried g.limits f.proper g.settings.address r list d (within_in 1 999 g.settings.address (omega (arith, a.0)) (omega (arith, a.1))) h.formed
 
-    read : (frame_of s ≡ V2 (head_for g.settings.address r)) × (data_from 8 s ≡ d)
+    read : (frame_of s ≡ Ok (V2 (head_for g.settings.address r))) × (data_from 8 s ≡ d)
     read = (frame_exactly_v2 s (head_for g.settings.address r) d).1 (sendable, h.frame)
 
-    told : Tells s (V2 (head_for g.settings.address r))
+    told : Tells s (Ok (V2 (head_for g.settings.address r)))
     told = rw read.0 at (tells s)
 
-    asked : (ask_v2 g.limits (head_for g.settings.address r) d ≡ AskV2.Asks r) × (ask_list g.limits (head_for g.settings.address r) d ≡ list)
+    asked : (ask_v2 g.limits (head_for g.settings.address r) d ≡ Ok r) × (ask_list g.limits (head_for g.settings.address r) d ≡ list)
     unfolding head_for
     asked = (asked_exactly g.limits f.proper (head_for g.settings.address r) d r list).1 (refl, two, h.formed)
       where
@@ -102,10 +101,10 @@ module _ (g : State) (room : ℕ) (s : List ℕ) where
         let e : g.settings.address ≡ address_of s = ap (λ (k : HeadV2). k.address) told.3 in
         rw (eq-eqb (address_of s) g.settings.address (sym e))
 
-    from : (is_v1 s ≡ false) × (number_of g room s ≡ 0) × (asked_v2 g.limits s ≡ AskV2.Asks r) × (asked_list g.limits s ≡ list)
+    from : (is_v1 s ≡ false) × (number_of g room s ≡ 0) × (asked_v2 g.limits s ≡ Ok r) × (asked_list g.limits s ≡ list)
     unfolding decided_v2
     from =
-        let e : asked_v2 g.limits s ≡ AskV2.Asks r = rw (← told.3, read.1) asked.0 in
+        let e : asked_v2 g.limits s ≡ Ok r = rw (← told.3, read.1) asked.0 in
         let l : asked_list g.limits s ≡ list = rw (← told.3, read.1) asked.1 in
         let n = number_v2 s g room (le-ltb room answer_room h.room_fits) told.0 own told.1 told.2 in
         (told.1, rw (n, e) ((granted_exactly g r).1 h.allowed), e, l)
@@ -132,7 +131,7 @@ old_address g room s r z l e = rw (z, l, e, own_address g room s (passed g room 
 -- ---- V1
 
 module _ (g : State) (room : ℕ) (s : List ℕ) where
-  is_frame_v1 : is_v1 s ≡ true → Passed g room s → frame_of s ≡ V1 (head_v1 s)
+  is_frame_v1 : is_v1 s ≡ true → Passed g room s → frame_of s ≡ Ok (V1 (head_v1 s))
   unfolding frame_of pick
   is_frame_v1 l p = rw (p.framed.shape, p.framed.sum, p.framed.address, l)
 
@@ -140,11 +139,11 @@ module _ (g : State) (room : ℕ) (s : List ℕ) where
   unfolding head_v1
   head_is_v1 r a c = rw (a, c)
 
-  grants_v1 : (r : RequestV1) → number_of g room s ≡ 0 → is_v1 s ≡ true → asked_v1 s ≡ AskV1.Asks r → grant_v1 g r ≡ 0
+  grants_v1 : (r : RequestV1) → number_of g room s ≡ 0 → is_v1 s ≡ true → asked_v1 s ≡ Ok r → grant_v1 g r ≡ 0
   unfolding decided_v1
   grants_v1 r z l e = rw e at (decided_as_v1 g room s z l)
 
-  to_v1 : (r : RequestV1) → is_v1 s ≡ true → number_of g room s ≡ 0 → asked_v1 s ≡ AskV1.Asks r → (d : List ℕ) × SatisfiesV1 g room s r d
+  to_v1 : (r : RequestV1) → is_v1 s ≡ true → number_of g room s ≡ 0 → asked_v1 s ≡ Ok r → (d : List ℕ) × SatisfiesV1 g room s r d
   to_v1 r l z e =
       let p = passed g room s z in
       let w = (asked_v1_exactly (at s 3) (data_from 4 s) r).0 e in
@@ -153,13 +152,13 @@ module _ (g : State) (room : ℕ) (s : List ℕ) where
       (data_from 4 s, record { room_fits = ltb-false room answer_room p.room_fits; frame = rw h at t.1; formed = w.1; allowed = (granted_v1_exactly g r).0 (grants_v1 r z l e) })
 
   module _ (r : RequestV1) (d : List ℕ) (f : SoundState g) (h : SatisfiesV1 g room s r d) where
-    read-v1 : (frame_of s ≡ V1 (head_for_v1 g.settings.address r)) × (data_from 4 s ≡ d)
+    read-v1 : (frame_of s ≡ Ok (V1 (head_for_v1 g.settings.address r))) × (data_from 4 s ≡ d)
     read-v1 =
         let a = f.settings.address in
         let c = carried_v1 g.settings.address r d (within_in 1 999 g.settings.address (omega (arith, a.0)) (omega (arith, a.1))) h.formed in
         (frame_exactly_v1 s (head_for_v1 g.settings.address r) d).1 (c, h.frame)
 
-    told-v1 : Tells s (V1 (head_for_v1 g.settings.address r))
+    told-v1 : Tells s (Ok (V1 (head_for_v1 g.settings.address r)))
     told-v1 = rw read-v1.0 at (tells s)
 
     own_v1 : other_address g s ≡ false
@@ -172,10 +171,10 @@ module _ (g : State) (room : ℕ) (s : List ℕ) where
     unfolding head_v1
     letter-v1 = ap (λ (k : HeadV1). k.letter) told-v1.2
 
-    from-v1 : (is_v1 s ≡ true) × (number_of g room s ≡ 0) × (asked_v1 s ≡ AskV1.Asks r)
+    from-v1 : (is_v1 s ≡ true) × (number_of g room s ≡ 0) × (asked_v1 s ≡ Ok r)
     unfolding decided_v1
     from-v1 =
-        let e : asked_v1 s ≡ AskV1.Asks r = rw read-v1.1 ((asked_v1_exactly (at s 3) d r).1 (sym letter-v1, h.formed)) in
+        let e : asked_v1 s ≡ Ok r = rw read-v1.1 ((asked_v1_exactly (at s 3) d r).1 (sym letter-v1, h.formed)) in
         let n = number_v1 s g room (le-ltb room answer_room h.room_fits) told-v1.0 own_v1 told-v1.1 in
         (told-v1.1, rw (n, e) ((granted_v1_exactly g r).1 h.allowed), e)
 

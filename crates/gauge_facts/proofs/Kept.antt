@@ -5,12 +5,11 @@ use mathlib.Core.List.{List}
 use Prim.Native.Nat.{ℕ}
 use borrow.Author.Tests.{eqb-true}
 use lib.Dec.{eqb}
+use Rattle.std.specs.Prelude.{None, Option, Some}
 use Rattle.frames.specs.Frame.{data_from, head_v2}
 use Rattle.settings.specs.declared.Transition.TheVariants.{Between}
 use Rattle.settings.specs.declared.Setting.TheVariants.{Switch}
 use Rattle.settings.specs.Limits.{limits_of}
-use Rattle.readings.specs.declared.Benched.{Benched}
-use Rattle.readings.specs.declared.Benched.TheVariants.{Accepted, Refused}
 use Rattle.readings_facts.proofs.Kept as readings
 use Rattle.forms_facts.specs.Sound.{Sound, SoundSettings, Proper}
 use Rattle.forms_facts.proofs.Profiles.{proper}
@@ -29,6 +28,7 @@ use Rattle.gauge_facts.proofs.Refused.{refused_keeps, readings_stay}
 use Rattle.gauge_facts.proofs.Profile.{bench_exactly}
 use Rattle.gauge_facts.proofs.Typed.{passed}
 use Rattle.gauge_facts.proofs.Lemmas.Entered.{v2_sound, v1_sound}
+use Rattle.readings.specs.declared.Reading.{Reading}
 
 -- a gauge starts so
 pub fresh_sound : FreshSound
@@ -63,9 +63,9 @@ pub bench_sound : BenchSound
 unfolding benched
 bench_sound g b f = go (bench_in g.limits b) refl
   where
-    go : (x : Benched) → bench_in g.limits b ≡ x → SoundState (benched g x)
-    go (Accepted r) e = record { proper = f.proper; settings = f.settings; readings = readings.bench_sound g.readings b r f.readings ((bench_exactly g.limits b r).0 e).1 }
-    go Refused e = f
+    go : (x : Option Reading) → bench_in g.limits b ≡ x → SoundState (benched g x)
+    go (Some r) e = record { proper = f.proper; settings = f.settings; readings = readings.bench_sound g.readings b r f.readings ((bench_exactly g.limits b r).0 e).1 }
+    go None e = f
 
 -- "A transition's lower end stays below its upper end."
 pub lower_below : LowerBelow

@@ -1,7 +1,6 @@
 -- What the theorems rest on.
 pub mod Rows
 pub mod Entered
-pub mod Refuses
 pub mod Asking
 pub mod Carried
 pub mod AskingV1

@@ -7,6 +7,7 @@ use native.Mathlib.Omega.{arith}
 use borrow.Author.Tests.{ltb-false, not-false}
 use lib.Dec.{eqb, ltb}
 use lib.ListN.{length, length-append}
+use Rattle.std.specs.Prelude.{Err, Ok, Result}
 use Rattle.buffer.specs.First.{pick}
 use Rattle.buffer.specs.Byte.{at, within, is_digit}
 use Rattle.buffer.proofs.Laws.{within_true, within_above}
@@ -33,8 +34,6 @@ use Rattle.requests.specs.declared.RequestV2.{RequestV2}
 use Rattle.requests.specs.declared.RequestV2.TheVariants.{Read, Restore, Set}
 use Rattle.requests.specs.declared.RequestV1.{RequestV1}
 use Rattle.requests.specs.declared.RequestV1.TheVariants.{Measure, ReadFactor, Unlock, SetFactor, ReadUnit, SetUnit}
-use Rattle.requests.specs.declared.AskV2.{AskV2}
-use Rattle.requests.specs.declared.AskV1.{AskV1}
 use Rattle.gauge_rules.specs.State.{State}
 use Rattle.gauge_rules.specs.RulesV2.{sent_text, text_v2}
 use Rattle.gauge_rules_v1.specs.RulesV1.{text_v1}
@@ -45,6 +44,7 @@ use Rattle.gauge_table.specs.Reply.{accepted_v2, accepted_v1, reply_of}
 use Rattle.gauge_facts.specs.Sound.{SoundState}
 use Rattle.gauge_facts.specs.Theorems.{ReplyFits, WithinLent}
 use Rattle.gauge_facts.proofs.Lemmas.Rows.{past_row}
+use Rattle.refusals.specs.declared.Refusal.{Refusal}
 
 length_v2 : (h : HeadV2) (d : List ℕ) → length (frame_v2 h d) ≡ length d + 10
 unfolding frame_v2 closed end_of
@@ -125,15 +125,15 @@ abbrev Fits : List ℕ → Type 0
 Fits reply = length reply ≤ 64
 
 module _ (g : State) (few : length g.settings.list ≤ capacity) where
-  accepted_v2_le : (h : HeadV2) (a : AskV2) → Fits (accepted_v2 g h a)
+  accepted_v2_le : (h : HeadV2) (a : Result RequestV2 Refusal) → Fits (accepted_v2 g h a)
   unfolding accepted_v2
-  accepted_v2_le h (AskV2.Asks r) = rw length_v2 (omega (arith, text_v2_le g few r))
-  accepted_v2_le h (AskV2.Refused k) = omega arith
+  accepted_v2_le h (Ok r) = rw length_v2 (omega (arith, text_v2_le g few r))
+  accepted_v2_le h (Err k) = omega arith
 
-  accepted_v1_le : (s : List ℕ) (h : HeadV1) (a : AskV1) → length s ≤ 12 → Fits (accepted_v1 g s h a)
+  accepted_v1_le : (s : List ℕ) (h : HeadV1) (a : Result RequestV1 Refusal) → length s ≤ 12 → Fits (accepted_v1 g s h a)
   unfolding accepted_v1
-  accepted_v1_le s h (AskV1.Asks r) k = each Fits _ _ _ (λ _. omega arith) (λ _. rw length_v1 (omega (arith, text_v1_le g r)))
-  accepted_v1_le s h (AskV1.Refused n) k = omega arith
+  accepted_v1_le s h (Ok r) k = each Fits _ _ _ (λ _. omega arith) (λ _. rw length_v1 (omega (arith, text_v1_le g r)))
+  accepted_v1_le s h (Err n) k = omega arith
 
   shape_of : (room : ℕ) (s : List ℕ) → eqb (number_of g room s) 0 ≡ true → misshapen s ≡ false
   unfolding number_of

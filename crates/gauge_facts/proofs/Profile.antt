@@ -1,35 +1,35 @@
 -- The profile: what its bench takes, and that no call changes it.
 use mathlib.Core.Path.{◌≡◌, refl, sym, ap, subst}
 use mathlib.Core.Bool.{Bool, true, false, not}
-use mathlib.Core.Option.{Option, none, some}
+use mathlib.Core.Option as math
 use Prim.Native.Nat.{ℕ}
 use native.Mathlib.Omega.{arith}
+use Rattle.std.specs.Prelude.{None, Option, Some}
 use Rattle.buffer.specs.First.{pick}
 use Rattle.sources.specs.Source.{among}
 use Rattle.sources.specs.declared.Profile.TheVariants.{Standard, Vsh, Vsm}
 use Rattle.settings.specs.Limits.{ProfileLimits, limits_of}
 use Rattle.readings.specs.Bench.{bench_of}
 use Rattle.readings.specs.There.{names}
-use Rattle.readings.specs.declared.Benched.{Benched}
-use Rattle.readings.specs.declared.Benched.TheVariants.{Accepted, Refused}
 use Rattle.gauge_rules.specs.State.{State}
 use Rattle.gauge_rules.specs.BenchIn.{lacked, bench_in}
 use Rattle.gauge_table.specs.After.{afterwards, next_of, benched}
 use Rattle.gauge_facts.specs.Theorems.{BenchExactly, ProfileStays, LimitsTell}
+use Rattle.readings.specs.declared.Reading.{Reading}
 
 -- a source that is not lacked is one of the profile's, and the reverse
-offered : (limits : ProfileLimits) (o : Option ℕ) → lacked limits o ≡ false → (code : ℕ) → o ≡ some code → among limits.source_codes code ≡ true
+offered : (limits : ProfileLimits) (o : math.Option ℕ) → lacked limits o ≡ false → (code : ℕ) → o ≡ math.some code → among limits.source_codes code ≡ true
 unfolding lacked
-offered limits o e code k = is_true (among limits.source_codes code) (subst (λ (o : Option ℕ). lacked limits o ≡ false) k e)
+offered limits o e code k = is_true (among limits.source_codes code) (subst (λ (o : math.Option ℕ). lacked limits o ≡ false) k e)
   where
     is_true : (t : Bool) → not t ≡ false → t ≡ true
     is_true true e = refl
     is_true false e = sym e
 
-not_lacked : (limits : ProfileLimits) (o : Option ℕ) → ((code : ℕ) → o ≡ some code → among limits.source_codes code ≡ true) → lacked limits o ≡ false
+not_lacked : (limits : ProfileLimits) (o : math.Option ℕ) → ((code : ℕ) → o ≡ math.some code → among limits.source_codes code ≡ true) → lacked limits o ≡ false
 unfolding lacked
-not_lacked limits none h = refl
-not_lacked limits (some code) h = rw (h code refl)
+not_lacked limits math.none h = refl
+not_lacked limits (math.some code) h = rw (h code refl)
 
 -- a setting of a source that the profile has, judged as before
 pub bench_exactly : BenchExactly
@@ -41,14 +41,14 @@ bench_exactly limits b x = (
   λ w. rw (not_lacked limits (names b) w.0) w.1,
 )
   where
-    to : (t : Bool) → pick t Refused (bench_of b) ≡ Accepted x → (t ≡ false) × (bench_of b ≡ Accepted x)
+    to : (t : Bool) → pick t None (bench_of b) ≡ Some x → (t ≡ false) × (bench_of b ≡ Some x)
     to true e = absurd (let z : ◌≡◌ {A = ℕ} 0 1 = cc in omega arith)
     to false e = (refl, e)
 
-bench_stays : (g : State) (x : Benched) → (benched g x).limits ≡ g.limits
+bench_stays : (g : State) (x : Option Reading) → (benched g x).limits ≡ g.limits
 unfolding benched
-bench_stays g (Accepted r) = refl
-bench_stays g Refused = refl
+bench_stays g (Some r) = refl
+bench_stays g None = refl
 
 pub profile_stays : ProfileStays
 unfolding next_of afterwards

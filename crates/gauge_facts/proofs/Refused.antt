@@ -6,11 +6,10 @@ use Prim.Native.Nat.{ℕ}
 use native.Mathlib.Omega.{arith}
 use borrow.Author.Tests.{ne_eqb}
 use lib.Dec.{eqb}
+use Rattle.std.specs.Prelude.{Err, Ok, Result}
 use Rattle.buffer.specs.First.{pick}
 use Rattle.buffer.specs.Byte.{within}
 use Rattle.buffer.proofs.Laws.{within_true}
-use Rattle.requests.specs.declared.AskV2.{AskV2}
-use Rattle.requests.specs.declared.AskV2.TheVariants.{Asks, Refused}
 use Rattle.gauge_rules.specs.State.{State}
 use Rattle.gauge_table.specs.Asked.{is_v1, asked_v2, breaks_rule, asks_faulty, locked_write, measures_faulty}
 use Rattle.gauge_table.specs.Table.{number_of}
@@ -18,6 +17,8 @@ use Rattle.gauge_table.specs.Reply.{reply_of}
 use Rattle.gauge_table.specs.After.{afterwards, next_of}
 use Rattle.gauge_facts.specs.Theorems.{RefusedKeeps, ReadingsStay, SilentStays, V2KeepsUnlock, V1MovesUnlock, NumberMost, SameNumber}
 use Rattle.gauge_facts.proofs.Lemmas.Rows.{under}
+use Rattle.refusals.specs.declared.Refusal.{Refusal}
+use Rattle.requests.specs.declared.RequestV2.{RequestV2}
 
 -- 1 to 5 are not 0
 silent_refuses : (k : ℕ) → within 1 5 k ≡ true → eqb k 0 ≡ false
@@ -61,15 +62,15 @@ number_most g room s =
     under _ _ _ refl (under _ _ _ refl (under _ _ _ refl (under _ _ _ refl (under _ _ _ refl refl))))))))))))))
 
 -- CC's rule looks at CM alone, a fault at the readings alone
-same_rule : (g h : State) → g.settings.control ≡ h.settings.control → (a : AskV2) → breaks_rule g a ≡ breaks_rule h a
+same_rule : (g h : State) → g.settings.control ≡ h.settings.control → (a : Result RequestV2 Refusal) → breaks_rule g a ≡ breaks_rule h a
 unfolding breaks_rule
-same_rule g h e (Asks r) = rw e
-same_rule g h e (Refused k) = refl
+same_rule g h e (Ok r) = rw e
+same_rule g h e (Err k) = refl
 
-same_fault : (g h : State) → g.readings ≡ h.readings → (a : AskV2) → asks_faulty g a ≡ asks_faulty h a
+same_fault : (g h : State) → g.readings ≡ h.readings → (a : Result RequestV2 Refusal) → asks_faulty g a ≡ asks_faulty h a
 unfolding asks_faulty
-same_fault g h e (Asks r) = rw e
-same_fault g h e (Refused k) = refl
+same_fault g h e (Ok r) = rw e
+same_fault g h e (Err k) = refl
 
 -- of what a gauge holds, its number depends on DA, CM, the readings and the unlock alone
 pub same_number : SameNumber

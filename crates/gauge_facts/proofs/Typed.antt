@@ -6,6 +6,7 @@ use Prim.Native.Nat.{ℕ}
 use native.Mathlib.Omega.{arith}
 use borrow.Author.Tests.{eq-eqb, eqb-true}
 use lib.Dec.{eqb, ltb}
+use Rattle.std.specs.Prelude.{Err, Ok, Result}
 use Rattle.buffer.specs.First.{pick}
 use Rattle.buffer.specs.Byte.{at, within}
 use Rattle.buffer.proofs.Rules.{each}
@@ -17,20 +18,18 @@ use Rattle.frame_writer.specs.Written.{frame_v1, frame_v2}
 use Rattle.frames_facts.proofs.Shape.{Framed}
 use Rattle.requests.specs.declared.RequestV2.{RequestV2}
 use Rattle.requests.specs.declared.RequestV1.{RequestV1}
-use Rattle.requests.specs.declared.AskV2.{AskV2}
-use Rattle.requests.specs.declared.AskV1.{AskV1}
 use Rattle.gauge_rules.specs.State.{State}
 use Rattle.gauge_rules_v1.specs.RulesV1.{text_v1, repeats}
 use Rattle.gauge_table.specs.Asked.{is_v1, asked_v2, asked_v1}
 use Rattle.gauge_table.specs.Table.{answer_room, other_address, number_of}
 use Rattle.gauge_table.proofs.DecidedV2.{by}
 use Rattle.gauge_table.specs.Decided.{decided_v2, decided_v1}
-use Rattle.gauge_table.proofs.Numbers.{number_v1, number_v2}
+use Rattle.gauge_table.proofs.Numbers.{some_number, number_v1, number_v2}
 use Rattle.gauge_table.specs.Reply.{accepted_v2, accepted_v1, reply_of}
 use Rattle.gauge_facts.specs.Theorems.{AsksV1, AsksV2, SilentExactly}
 use Rattle.gauge_facts.proofs.Refused.{silent_sends}
 use Rattle.gauge_facts.proofs.Lemmas.Rows.{past_row}
-use Rattle.gauge_facts.proofs.Lemmas.Refuses.{RefusesV2, refuses_v2, RefusesV1, refuses_v1}
+use Rattle.refusals.specs.declared.Refusal.{Refusal}
 
 -- what an accepted request has passed: 1 to 5, and for V2 6
 pub record Passed (g : State) (room : ℕ) (s : List ℕ) : Type 0 where
@@ -61,19 +60,19 @@ module _ (g : State) (room : ℕ) (s : List ℕ) (z : number_of g room s ≡ 0) 
 -- number 0 means that the bytes ask a typed request
 pub asks_v1_lem : AsksV1
 unfolding decided_v1
-asks_v1_lem g room s z l = go (asked_v1 s) (refuses_v1 (at s 3) _) (decided_as_v1 g room s z l)
+asks_v1_lem g room s z l = go (asked_v1 s) (decided_as_v1 g room s z l)
   where
-    go : (a : AskV1) → RefusesV1 a → decided_v1 g a ≡ 0 → (r : RequestV1) × (a ≡ AskV1.Asks r)
-    go (AskV1.Asks r) n e = (r, refl)
-    go (AskV1.Refused k) n e = absurd (n e)
+    go : (a : Result RequestV1 Refusal) → decided_v1 g a ≡ 0 → (r : RequestV1) × (a ≡ Ok r)
+    go (Ok r) e = (r, refl)
+    go (Err k) e = absurd (omega (arith, some_number k))
 
 pub asks_v2 : AsksV2
 unfolding decided_v2
-asks_v2 g room s z l = go (asked_v2 g.limits s) (refuses_v2 _ _ _) (decided_as_v2 g room s z l)
+asks_v2 g room s z l = go (asked_v2 g.limits s) (decided_as_v2 g room s z l)
   where
-    go : (a : AskV2) → RefusesV2 a → decided_v2 g a ≡ 0 → (r : RequestV2) × (a ≡ AskV2.Asks r)
-    go (AskV2.Asks r) n e = (r, refl)
-    go (AskV2.Refused k) n e = absurd (n e)
+    go : (a : Result RequestV2 Refusal) → decided_v2 g a ≡ 0 → (r : RequestV2) × (a ≡ Ok r)
+    go (Ok r) e = (r, refl)
+    go (Err k) e = absurd (omega (arith, some_number k))
 
 -- ---- replies
 
@@ -91,17 +90,17 @@ unfolding is_letter within
 letter_some s l e = let z : ◌≡◌ {A = ℕ} 0 1 = cc (rw e at l) in omega arith
 
 module _ (g : State) (s : List ℕ) where
-  accepted_v1_some : is_v1 s ≡ true → (r : RequestV1) → accepted_v1 g s (head_v1 s) (AskV1.Asks r) ≡ [] → ⊥
+  accepted_v1_some : is_v1 s ≡ true → (r : RequestV1) → accepted_v1 g s (head_v1 s) (Ok r) ≡ [] → ⊥
   unfolding accepted_v1
   accepted_v1_some l r =
       each (λ (t : List ℕ). t ≡ [] → ⊥) (repeats r) s (frame_v1 (head_v1 s) (text_v1 g r)) (λ _. letter_some s l) (λ _. frame_v1_some _ _)
 
-  accepted_v2_some : (h : HeadV2) (r : RequestV2) → accepted_v2 g h (AskV2.Asks r) ≡ [] → ⊥
+  accepted_v2_some : (h : HeadV2) (r : RequestV2) → accepted_v2 g h (Ok r) ≡ [] → ⊥
   unfolding accepted_v2
   accepted_v2_some h r = frame_v2_some _ _
 
   -- a number other than 1 to 5, and what is asked where it is 0
-  reply_some : (k : ℕ) → (eqb k 0 ≡ true → is_v1 s ≡ true → (r : RequestV1) × (asked_v1 s ≡ AskV1.Asks r)) → (eqb k 0 ≡ true → is_v1 s ≡ false → (r : RequestV2) × (asked_v2 g.limits s ≡ AskV2.Asks r))
+  reply_some : (k : ℕ) → (eqb k 0 ≡ true → is_v1 s ≡ true → (r : RequestV1) × (asked_v1 s ≡ Ok r)) → (eqb k 0 ≡ true → is_v1 s ≡ false → (r : RequestV2) × (asked_v2 g.limits s ≡ Ok r))
       → within 1 5 k ≡ false → reply_of g s k ≡ [] → ⊥
   unfolding reply_of pick
   reply_some k v1 v2 e h =

@@ -1,16 +1,16 @@
 -- "A request is accepted exactly if lent room, frame, checksum, address, command, access, data and state satisfy document 01": the eight
 -- conditions, each from the table's tests.
-use Rattle.std.specs.Prelude.{Bool, false, not, ◌&&◌, List, ℕ, ltb}
+use Rattle.std.specs.Prelude.{Bool, false, not, ◌&&◌, List, ℕ, ltb, Option}
 use Rattle.buffer.specs.Byte.{at}
 use Rattle.frames.specs.Frame.{data_from, misshapen, wrong_sum, wrong_address, wrong_length}
 use Rattle.requests.specs.Command.{command_of}
-use Rattle.requests.specs.declared.Named.{Named}
 use Rattle.gauge_rules.specs.State.{State}
 use Rattle.gauge_table.specs.Asked.{asked_v2, wrong_code, unknown_command, lacks, bad_form_v2, outside_v2, against_logic, breaks_rule, asks_faulty, unknown_letter, bad_form_v1, locked_write, outside_v1, measures_faulty}
 use Rattle.gauge_table.specs.Table.{answer_room, other_address, test}
+use Rattle.requests.specs.declared.Command.{Command}
 
 -- the command of a V2 frame
-abbrev pub named : List ℕ → Named
+abbrev pub named : List ℕ → Option Command
 named s = command_of (at s 4) (at s 5)
 
 -- 1: not "lent answer memory below 64 bytes"

@@ -1,5 +1,5 @@
 -- What is proved here, each statement as a type; proofs/ has the proofs. First the demands on one call, then document 01 in its order.
-use Rattle.std.specs.Prelude.{◌≡◌, true, false, ◌&&◌, List, [], ◌∷◌, map, ◌↔◌, ℕ, ◌<◌, ◌≤◌, eqb, ltb, leb, length}
+use Rattle.std.specs.Prelude.{◌≡◌, true, false, ◌&&◌, List, [], ◌∷◌, map, ◌↔◌, ℕ, ◌<◌, ◌≤◌, eqb, ltb, leb, length, Ok, Some}
 use Rattle.std.proofs.Math.Option.{some}
 use Rattle.buffer.specs.First.{◌⇒◌, first}
 use Rattle.buffer.specs.Byte.{at, within}
@@ -18,15 +18,12 @@ use Rattle.readings.specs.Reading.{value_text}
 use Rattle.readings.specs.Bench.{bench_of}
 use Rattle.readings.specs.There.{names}
 use Rattle.readings.specs.declared.Reading.{Reading}
-use Rattle.readings.specs.declared.Benched.TheVariants.{Accepted}
 use Rattle.readings.specs.declared.Bench.{Bench}
 use Rattle.readings.specs.declared.Readings.{Readings}
 use Rattle.readings_facts.specs.Sound.{SoundReadings}
 use Rattle.requests.specs.Command.{command_of}
 use Rattle.requests.specs.declared.RequestV2.{RequestV2}
-use Rattle.requests.specs.declared.AskV2.{AskV2}
 use Rattle.requests.specs.declared.RequestV1.{RequestV1}
-use Rattle.requests.specs.declared.AskV1.{AskV1}
 use Rattle.line.specs.Line.{shown_list, values_of, line_answer}
 use Rattle.gauge_rules.specs.State.{State, fresh}
 use Rattle.gauge_rules.specs.BenchIn.{bench_in}
@@ -74,19 +71,19 @@ AcceptedV1Exactly = (g : State) (room : ℕ) (s : List ℕ) → SoundState g
 -- and as which request: V2 bytes are accepted as the request r, with these sources, exactly if they satisfy the paper for it
 abbrev pub AcceptedAs : Type 0
 AcceptedAs = (g : State) (room : ℕ) (s : List ℕ) (r : RequestV2) (list : List ℕ) → SoundState g
-    → ((is_v1 s ≡ false) × (number_of g room s ≡ 0) × (asked_v2 g.limits s ≡ AskV2.Asks r) × (asked_list g.limits s ≡ list)) ↔ ((d : List ℕ) × Satisfies g room s r list d)
+    → ((is_v1 s ≡ false) × (number_of g room s ≡ 0) × (asked_v2 g.limits s ≡ Ok r) × (asked_list g.limits s ≡ list)) ↔ ((d : List ℕ) × Satisfies g room s r list d)
 
 -- V1 bytes are accepted as the request r exactly if they satisfy the paper for it
 abbrev pub AcceptedAsV1 : Type 0
 AcceptedAsV1 = (g : State) (room : ℕ) (s : List ℕ) (r : RequestV1) → SoundState g
-    → ((is_v1 s ≡ true) × (number_of g room s ≡ 0) × (asked_v1 s ≡ AskV1.Asks r)) ↔ ((d : List ℕ) × SatisfiesV1 g room s r d)
+    → ((is_v1 s ≡ true) × (number_of g room s ≡ 0) × (asked_v1 s ≡ Ok r)) ↔ ((d : List ℕ) × SatisfiesV1 g room s r d)
 
 -- no accepted call without its effect: number 0 means that the bytes ask a typed request
 abbrev pub AsksV2 : Type 0
-AsksV2 = (g : State) (room : ℕ) (s : List ℕ) → number_of g room s ≡ 0 → is_v1 s ≡ false → (r : RequestV2) × (asked_v2 g.limits s ≡ AskV2.Asks r)
+AsksV2 = (g : State) (room : ℕ) (s : List ℕ) → number_of g room s ≡ 0 → is_v1 s ≡ false → (r : RequestV2) × (asked_v2 g.limits s ≡ Ok r)
 
 abbrev pub AsksV1 : Type 0
-AsksV1 = (g : State) (room : ℕ) (s : List ℕ) → number_of g room s ≡ 0 → is_v1 s ≡ true → (r : RequestV1) × (asked_v1 s ≡ AskV1.Asks r)
+AsksV1 = (g : State) (room : ℕ) (s : List ℕ) → number_of g room s ≡ 0 → is_v1 s ≡ true → (r : RequestV1) × (asked_v1 s ≡ Ok r)
 
 -- ---- "Answer numbers of the text gauge"
 
@@ -139,7 +136,7 @@ WithinLent = (g : State) → SoundState g → (room : ℕ) (s : List ℕ) → le
 
 -- "A DA write or restore is answered from the old address.": an accepted request is answered from the address that the gauge had before it
 abbrev pub OldAddress : Type 0
-OldAddress = (g : State) (room : ℕ) (s : List ℕ) (r : RequestV2) → number_of g room s ≡ 0 → is_v1 s ≡ false → asked_v2 g.limits s ≡ AskV2.Asks r
+OldAddress = (g : State) (room : ℕ) (s : List ℕ) (r : RequestV2) → number_of g room s ≡ 0 → is_v1 s ≡ false → asked_v2 g.limits s ≡ Ok r
     → reply_of g s (number_of g room s)
     ≡ frame_v2 (record { address = g.settings.address; access = answer_code r; first = at s 4; second = at s 5 }) (text_v2 g r)
 
@@ -166,7 +163,7 @@ NamesOffered limits b = (code : ℕ) → names b ≡ some code → among limits.
 
 -- "readings of sources a profile lacks can't be set by its bench (15)", and every other setting is judged as before
 abbrev pub BenchExactly : Type 0
-BenchExactly = (limits : ProfileLimits) (b : Bench) (x : Reading) → (bench_in limits b ≡ Accepted x) ↔ (NamesOffered limits b × (bench_of b ≡ Accepted x))
+BenchExactly = (limits : ProfileLimits) (b : Bench) (x : Reading) → (bench_in limits b ≡ Some x) ↔ (NamesOffered limits b × (bench_of b ≡ Some x))
 
 -- "chosen when the gauge is made and fixed after that": no request and no bench setting changes the profile
 abbrev pub ProfileStays : Type 0

@@ -7,26 +7,24 @@ use native.Mathlib.Omega.{arith}
 use borrow.Author.Tests.{le-ltb, le-leb, leb-true, ne_eqb, eqb-true}
 use lib.Dec.{eqb, ltb, leb}
 use lib.ListN.{length}
+use Rattle.std.specs.Prelude.{Err, Ok, Result}
 use Rattle.buffer.specs.First.{pick}
 use Rattle.buffer.specs.Byte.{at, is_digit, numeral}
 use Rattle.buffer.proofs.Laws.{within_true}
 use Rattle.forms.specs.Forms.{digit_data}
 use Rattle.requests.specs.AskV1.{six_digits, bare_of, digit_one, one_of, unit_at, ask_v1}
-use Rattle.forms.specs.declared.Digit.{Digit}
-use Rattle.forms.specs.declared.Digit.TheVariants.{Is}
 use Rattle.requests.specs.declared.RequestV1.{RequestV1}
 use Rattle.requests.specs.declared.RequestV1.TheVariants.{Measure, ReadFactor, Unlock, ReadUnit}
-use Rattle.requests.specs.declared.AskV1.{AskV1}
-use Rattle.requests.specs.declared.AskV1.TheVariants.{Asks}
 use Rattle.gauge_rules.specs.State.{State}
 use Rattle.gauge_rules_v1.specs.RulesV1.{factor_number, grant_v1}
 use Rattle.gauge_table.specs.Asked.{one_digit, unknown_letter, bad_form_v1, locked_write, outside_v1, measures_faulty}
 use Rattle.gauge_table.specs.Decided.{decided_v1}
 use Rattle.gauge_table.specs.Letters.{rows_v1}
 use Rattle.gauge_table.proofs.DecidedV2.{by}
+use Rattle.refusals.specs.declared.Refusal.{Refusal}
 
 module _ (g : State) where
-  either : (b : Bool) (x y : AskV1) → decided_v1 g (pick b x y) ≡ pick b (decided_v1 g x) (decided_v1 g y)
+  either : (b : Bool) (x y : Result RequestV1 Refusal) → decided_v1 g (pick b x y) ≡ pick b (decided_v1 g x) (decided_v1 g y)
   unfolding pick
   either true x y = refl
   either false x y = refl
@@ -34,15 +32,15 @@ module _ (g : State) where
   -- a request with no data
   bare_is : (d : List ℕ) (r : RequestV1) → decided_v1 g (bare_of d r) ≡ pick (not (eqb (length d) 0)) 10 (grant_v1 g r)
   unfolding bare_of decided_v1
-  bare_is d r = either (not (eqb (length d) 0)) (AskV1.Refused 10) (Asks r)
+  bare_is d r = either (not (eqb (length d) 0)) (Err Refusal.Syntax) (Ok r)
 
   -- a request with one digit, which is 1; p says that there is one byte, q that it is a digit
   digit_is : (v : ℕ) (r : RequestV1) (p q : Bool) → (q ≡ true → ltb 9 v ≡ false)
-      → decided_v1 g (digit_one (pick (not p) (Digit.Refused 10) (pick (not q) (Digit.Refused 10) (pick (ltb 9 v) (Digit.Refused 11) (Is v)))) r) ≡ pick (not (p && q)) 10 (pick (not (eqb v 1)) 11 (grant_v1 g r))
+      → decided_v1 g (digit_one (pick (not p) (Err Refusal.Syntax) (pick (not q) (Err Refusal.Syntax) (pick (ltb 9 v) (Err Refusal.Range) (Ok v)))) r) ≡ pick (not (p && q)) 10 (pick (not (eqb v 1)) 11 (grant_v1 g r))
   unfolding digit_one decided_v1 pick
   digit_is v r false q h = refl
   digit_is v r true false h = refl
-  digit_is v r true true h = rw (h refl) (either (not (eqb v 1)) (AskV1.Refused 11) (Asks r))
+  digit_is v r true true h = rw (h refl) (either (not (eqb v 1)) (Err Refusal.Range) (Ok r))
 
   one_is : (d : List ℕ) (r : RequestV1) → decided_v1 g (one_of d r) ≡ pick (not (one_digit d)) 10 (pick (not (eqb (at d 0 - 48) 1)) 11 (grant_v1 g r))
   unfolding one_of digit_data

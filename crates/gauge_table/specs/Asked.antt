@@ -1,5 +1,5 @@
 -- What the bytes of a request ask, and the tests of the table's rows on them, for each protocol.
-use Rattle.std.specs.Prelude.{Bool, true, false, cond, not, ◌&&◌, ◌||◌, List, [], ◌∷◌, ℕ, ◌-◌, leb, eqb, length}
+use Rattle.std.specs.Prelude.{Bool, true, false, cond, not, ◌&&◌, ◌||◌, List, [], ◌∷◌, ℕ, ◌-◌, leb, eqb, length, Err, None, Ok, Option, Result, Some}
 use Rattle.buffer.specs.First.{◌⇒◌, first}
 use Rattle.buffer.specs.Byte.{at, is_digit, numeral}
 use Rattle.frames.specs.Frame.{is_letter, data_from, head_v2}
@@ -10,23 +10,22 @@ use Rattle.requests.specs.Command.{write_code, is_access, lacks_access}
 use Rattle.requests.specs.AskV2.{ask_v2}
 use Rattle.requests.specs.AskV1.{six_digits, ask_v1}
 use Rattle.requests.specs.declared.Command.TheVariants.{MV, T2, FN, FS, Of}
-use Rattle.requests.specs.declared.Named.{Named}
-use Rattle.requests.specs.declared.Named.TheVariants.{Known, Unknown}
-use Rattle.requests.specs.declared.AskV2.{AskV2}
-use Rattle.requests.specs.declared.AskV2.TheVariants.{Asks, Refused}
-use Rattle.requests.specs.declared.AskV1.{AskV1}
 use Rattle.gauge_rules.specs.State.{State}
 use Rattle.gauge_rules.specs.RulesV2.{changes_cathode, reads_faulty}
+use Rattle.refusals.specs.declared.Refusal.{Refusal}
+use Rattle.requests.specs.declared.Command.{Command}
+use Rattle.requests.specs.declared.RequestV2.{RequestV2}
+use Rattle.requests.specs.declared.RequestV1.{RequestV1}
 
 -- "Byte 3 decides"
 abbrev pub is_v1 : List ℕ → Bool
 is_v1 s = is_letter (at s 3)
 
 -- what a V2 and a V1 frame ask
-abbrev pub asked_v2 : ProfileLimits → List ℕ → AskV2
+abbrev pub asked_v2 : ProfileLimits → List ℕ → Result RequestV2 Refusal
 asked_v2 limits s = ask_v2 limits (head_v2 s) (data_from 8 s)
 
-abbrev pub asked_v1 : List ℕ → AskV1
+abbrev pub asked_v1 : List ℕ → Result RequestV1 Refusal
 asked_v1 s = ask_v1 (at s 3) (data_from 4 s)
 
 -- ---- V2: a is the access code, n the command, d the data, limits those of the gauge's profile
@@ -36,45 +35,45 @@ abbrev pub wrong_code : ℕ → Bool
 wrong_code a = not (is_access a)
 
 -- 8 NO_DEF: "command unknown"
-unfoldable pub unknown_command : Named → Bool
-unknown_command (Known c) = false
-unknown_command Unknown = true
+unfoldable pub unknown_command : Option Command → Bool
+unknown_command (Some c) = false
+unknown_command None = true
 
 -- 9 ACCESS: "V2: command lacks this access"
-unfoldable pub lacks : ℕ → Named → Bool
-lacks a (Known c) = lacks_access a c
-lacks a Unknown = false
+unfoldable pub lacks : ℕ → Option Command → Bool
+lacks a (Some c) = lacks_access a c
+lacks a None = false
 
 -- how the data of a write are judged
-unfoldable pub data_number : ProfileLimits → Named → List ℕ → ℕ
-data_number limits (Known MV) d = 0
-data_number limits (Known T2) d = 0
-data_number limits (Known FN) d = 0
-data_number limits (Known FS) d = 0
-data_number limits (Known (Of key)) d = verdict_number (verdict_of limits key d)
-data_number limits Unknown d = 0
+unfoldable pub data_number : ProfileLimits → Option Command → List ℕ → ℕ
+data_number limits (Some MV) d = 0
+data_number limits (Some T2) d = 0
+data_number limits (Some FN) d = 0
+data_number limits (Some FS) d = 0
+data_number limits (Some (Of key)) d = verdict_number (verdict_of limits key d)
+data_number limits None d = 0
 
 -- 10 SYNTAX: "data not of the command's form; V2: data with a read or default, none with a write"
-unfoldable pub bad_form_v2 : ProfileLimits → ℕ → Named → List ℕ → Bool
+unfoldable pub bad_form_v2 : ProfileLimits → ℕ → Option Command → List ℕ → Bool
 bad_form_v2 limits a n d = cond (eqb a write_code) (eqb (length d) 0 || eqb (data_number limits n d) 10) (not (eqb (length d) 0))
 
 -- 11 RANGE: "form right, a number outside"
-unfoldable pub outside_v2 : ProfileLimits → ℕ → Named → List ℕ → Bool
+unfoldable pub outside_v2 : ProfileLimits → ℕ → Option Command → List ℕ → Bool
 outside_v2 limits a n d = eqb a write_code && eqb (data_number limits n d) 11
 
 -- 12 LOGIC in the data: "ST's F must lie strictly below T, else LOGIC."; in SM's list "a repeat or a listed `0` is 12 LOGIC"
-unfoldable pub against_logic : ProfileLimits → ℕ → Named → List ℕ → Bool
+unfoldable pub against_logic : ProfileLimits → ℕ → Option Command → List ℕ → Bool
 against_logic limits a n d = eqb a write_code && eqb (data_number limits n d) 12
 
 -- 12 LOGIC: "CC written or restored while CM is 1 is LOGIC."
-unfoldable pub breaks_rule : State → AskV2 → Bool
-breaks_rule g (Asks r) = changes_cathode r && eqb g.settings.control 1
-breaks_rule g (Refused k) = false
+unfoldable pub breaks_rule : State → Result RequestV2 Refusal → Bool
+breaks_rule g (Ok r) = changes_cathode r && eqb g.settings.control 1
+breaks_rule g (Err k) = false
 
 -- 13 FAULT: "the sensor asked for is faulty"
-unfoldable pub asks_faulty : State → AskV2 → Bool
-asks_faulty g (Asks r) = reads_faulty g.readings r
-asks_faulty g (Refused k) = false
+unfoldable pub asks_faulty : State → Result RequestV2 Refusal → Bool
+asks_faulty g (Ok r) = reads_faulty g.readings r
+asks_faulty g (Err k) = false
 
 -- ---- V1: l is the letter, d the data
 

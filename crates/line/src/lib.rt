@@ -10,47 +10,44 @@ ghost use Rattle.settings.specs.Settings.{held};
 ghost use Rattle.line.specs.Line.{values_of, shown_list, line_answer};
 ghost use Rattle.line.specs.Rows.{row_of, rows_of, row_text, tail_rows, line_of};
 
+use refusals::Refusal;
+
 // The longest line: seven values, or three of a hot cathode gauge.
 pub const ROOM: usize = 71;
 
 pub const HOT_ROOM: usize = 30;
 
 // How many bytes the line of a profile asks for: as many as its longest line has.
+#[tactic(auto, unfolding(settings::specs::Limits::limits_of, settings::specs::Limits::longest_line, settings::specs::Limits::width_of, sources::specs::Source::total, buffer::specs::First::pick))]
 pub fn room(profile: sources::Profile) -> usize
     ensures { result ≡ longest_line (limits_of profile).source_codes }
 {
     match profile {
         sources::Profile::Standard => ROOM,
-        sources::Profile::Vsh => HOT_ROOM,
-        sources::Profile::Vsm => HOT_ROOM,
+        sources::Profile::Vsh | sources::Profile::Vsm => HOT_ROOM,
     }
 }
 
 // The widest value of a source, by its code.
+#[tactic(auto, unfolding(settings::specs::Limits::width_of, buffer::specs::First::pick))]
 fn width(code: u8) -> usize
     ensures { result ≡ width_of code }
 {
-    if code == 7 {
-        return 11;
+    match code {
+        7 => 11,
+        8.. => 6,
+        _ => 10,
     }
-    if 8 <= code {
-        return 6;
-    }
-    10
 }
 
 // A text as a row: at most so many of its characters, and zeros after them.
+#[tactic(auto, unfolding(crate::specs::Rows::row_of, buffer::specs::Text::text_of))]
 fn row_of(t: buffer::Text, most: usize) -> [u8; 11]
     ensures { result ≡ row_of (take most (text_of t)) }
 {
-    let n = t.size();
-    let bytes = t.bytes;
-    let mut row = [0u8; 11];
-    if n <= most {
-        buffer::put(&mut row, 0, &bytes[..n]);
-        return row;
-    }
-    buffer::put(&mut row, 0, &bytes[..most]);
+    let n = t.size().min(most);
+    let mut row = [0; 11];
+    buffer::put(&mut row, 0, &t.bytes[..n]);
     row
 }
 
@@ -60,13 +57,9 @@ fn rows_of(list: sources::Sources, r: readings::Readings) -> [[u8; 11]; 8]
 {
     let mut rows = [[0u8; 11]; 8];
     rows[0] = row_of(r.text(0), width(0));
-    let n = list.size();
-    let codes = list.codes;
-    let mut i: usize = 0;
-    while i < n {
-        let code = codes[i];
-        i += 1;
-        rows[i] = row_of(r.text(code), width(code));
+    let listed = &list.codes[..list.size()];
+    for (i, code) in listed.iter().enumerate() {
+        rows[i + 1] = row_of(r.text(*code), width(*code));
     }
     rows
 }
@@ -90,28 +83,26 @@ fn put_tail(out: &mut [u8], at: usize, rows: [[u8; 11]; 8]) -> usize
     ensures value { result ≡ at + length (tail_rows (drop 1 rows)) }
 {
     let mut p = at;
-    let mut i: usize = 1;
-    while i < 8 {
-        let row = rows[i];
+    for row in &rows[1..] {
         if row[0] == 0 {
             return p;
         }
-        let semicolon = [b';'];
-        buffer::put(out, p, &semicolon);
-        p = put_row(out, p + 1, row);
-        i += 1;
+        buffer::put(out, p, b";");
+        p = put_row(out, p + 1, *row);
     }
     p
 }
 
 // The list that the line shows: none where SM could not have it, which no call makes.
+#[tactic(auto, using(settings::proofs::Laws::codes_are), unfolding(crate::specs::Line::shown_list, sources::specs::Source::list_of, buffer::specs::First::pick))]
 fn shown_list(profile: sources::Profile, q: sources::Sources) -> sources::Sources
     ensures { list_of result ≡ shown_list (limits_of profile).source_codes (list_of q) }
 {
     if sources::is_listable(profile, q) {
-        return q;
+        q
+    } else {
+        sources::Sources::NONE
     }
-    sources::Sources::NONE
 }
 
 // Writes the line of these rows at the front of out, and returns its length.
@@ -136,10 +127,12 @@ pub fn stream_line(
     ensures { Sent out.old (line_answer (limits_of profile) (length out.old) (held s) r) out.new result }
 {
     if out.len() < room(profile) {
-        return buffer::Written { number: 1, len: 0 };
+        return buffer::Written {
+            number: Refusal::Room.number() as u16,
+            len: 0,
+        };
     }
-    let streaming = s.streaming;
-    if !streaming {
+    if !s.streaming {
         return buffer::Written { number: 0, len: 0 };
     }
     let rows = rows_of(shown_list(profile, s.sources), r);

@@ -2,74 +2,23 @@
 use mathlib.Core.Path.{◌≡◌, refl, sym, ap, ◌∙◌}
 use mathlib.Core.Bool.{Bool, true, false}
 use mathlib.Core.List.{List, [], ◌∷◌, ◌++◌}
-use Prim.Native.Nat.{ℕ, zero, suc, ◌+◌, ◌-◌, ◌*◌, ◌<◌, ◌≤◌, min}
+use Prim.Native.Nat.{ℕ, ◌+◌, ◌-◌, ◌*◌, ◌<◌, ◌≤◌, min}
 use native.Mathlib.Omega.{arith}
-use lib.Dec.{ltb, leb, eqb}
-use borrow.Author.Tests.{lt-ltb, le-leb, lt-leb, leb-false, leb-true, eq-eqb, ne_eqb}
-use lib.ListN.{length, get_or, take, drop, drop_of_length-le}
+use lib.Dec.{leb}
+use borrow.Author.Tests.{le-leb, lt-leb, leb-false, leb-true, eq-eqb, ne_eqb}
+use lib.ListN.{length, get_or, take, drop, drop_of_length-le, length-take}
+use Rattle.std.proofs.lemmas.Bool.Decides.{nat_tests}
+use Rattle.decimal.proofs.Laws.{significant_le}
+use Rattle.std.specs.Prelude.{None, Option, Some}
 use Rattle.buffer.specs.First.{pick}
 use Rattle.buffer.specs.Byte.{numeral_from, numeral, leading}
 use Rattle.buffer.proofs.Laws.{drop_step, ten_max}
 use Rattle.buffer.proofs.Rules.{past, stop, each}
+use Rattle.decimal.specs.Digits.{significant}
 use Rattle.decimal.specs.Form.{whole, power_of, exponent_of}
 use Rattle.decimal.specs.declared.Exact.{Exact}
-use Rattle.decimal.specs.declared.Scan.{Scan}
-use Rattle.decimal.specs.declared.Scan.TheVariants.{Of, NoForm}
-use Rattle.decimal.proofs.Laws.{numeral_front}
-use Rattle.long_decimal.specs.Long.{significant, decimal_value, spelled_of}
-
--- ---- the digits up to the last that is not `0`
-
--- where n stands for those before i, and x is how many there are from i on
-abbrev pub up_to : ℕ → ℕ → ℕ → ℕ
-up_to n i x = pick (ltb 0 x) (i + x) n
-
-some : (x : ℕ) → ltb 0 (suc x) ≡ true
-some x = lt-ltb 0 (suc x) (omega arith)
-
-pub up_to_start : (x : ℕ) → x ≡ up_to 0 0 x
-unfolding pick
-up_to_start zero = refl
-up_to_start (suc x) = rw (some x) (omega arith)
-
--- one character more; y is how many there are after it
-with : ℕ → ℕ → ℕ
-with last y = pick (ltb 0 y) (y + 1) last
-
-step : (s : List ℕ) (i : ℕ) → i < length s → significant (drop i s) ≡ with (pick (eqb (get_or s i 0) 48) 0 1) (significant (drop (i + 1) s))
-unfolding significant with
-step s i h = ap significant (drop_step s i h)
-
-counted : (n i y : ℕ) → up_to n i (with 1 y) ≡ up_to (i + 1) (i + 1) y
-unfolding pick with
-counted n i zero = refl
-counted n i (suc y) = rw (some y, lt-ltb 0 (suc y + 1) (omega arith)) (omega arith)
-
-passed : (n i y : ℕ) → up_to n i (with 0 y) ≡ up_to n (i + 1) y
-unfolding pick with
-passed n i zero = refl
-passed n i (suc y) = rw (some y, lt-ltb 0 (suc y + 1) (omega arith)) (omega arith)
-
-pub up_to_digit : (s : List ℕ) (n i : ℕ) → i < length s → eqb (get_or s i 0) 48 ≡ false
-    → up_to n i (significant (drop i s)) ≡ up_to (i + 1) (i + 1) (significant (drop (i + 1) s))
-unfolding pick
-up_to_digit s n i h e = ap (up_to n i) (step s i h ∙ ap (λ (t : Bool). with (pick t 0 1) (significant (drop (i + 1) s))) e) ∙ counted n i (significant (drop (i + 1) s))
-
-pub up_to_zero : (s : List ℕ) (n i : ℕ) → i < length s → eqb (get_or s i 0) 48 ≡ true
-    → up_to n i (significant (drop i s)) ≡ up_to n (i + 1) (significant (drop (i + 1) s))
-unfolding pick
-up_to_zero s n i h e = ap (up_to n i) (step s i h ∙ ap (λ (t : Bool). with (pick t 0 1) (significant (drop (i + 1) s))) e) ∙ passed n i (significant (drop (i + 1) s))
-
-pub up_to_end : (s : List ℕ) (n i : ℕ) → length s ≤ i → up_to n i (significant (drop i s)) ≡ n
-unfolding significant pick
-up_to_end s n i h = ap (λ (l : List ℕ). up_to n i (significant l)) (drop_of_length-le s h)
-
-pub significant_le : (s : List ℕ) → significant s ≤ length s
-unfolding significant
-significant_le [] = omega arith
-significant_le (x ∷ s) =
-    each (λ (n : ℕ). n ≤ suc (length s)) (ltb 0 (significant s)) _ _ (λ e. omega (arith, significant_le s))
-    (λ e. each (λ (n : ℕ). n ≤ suc (length s)) (eqb x 48) 0 1 (λ f. omega arith) (λ f. omega arith))
+use Rattle.decimal.proofs.Laws.{numeral_front, numeral_on}
+use Rattle.long_decimal.specs.Long.{decimal_value, spelled_of}
 
 -- ---- numbers that digits spell
 
@@ -85,11 +34,6 @@ pub spells_more : (s : List ℕ) (n : ℕ) → n ≤ numeral_from n s
 unfolding numeral_from
 spells_more [] n = omega arith
 spells_more (x ∷ s) n = omega (arith, spells_more s (n * 10 + (x - 48)))
-
-pub spells_on : (w f : List ℕ) (n : ℕ) → numeral_from n (w ++ f) ≡ numeral_from (numeral_from n w) f
-unfolding numeral_from
-spells_on [] f n = refl
-spells_on (x ∷ w) f n = spells_on w f (n * 10 + (x - 48))
 
 -- a million stands for any number that is as large
 pub enough : (n : ℕ) (f : List ℕ) → min 1000000 (numeral_from (min 1000000 n) f) ≡ min 1000000 (numeral_from n f)
@@ -123,9 +67,9 @@ pub record Small (x : Exact) : Type 0 where
   pub up : x.up ≤ 99
   pub down : x.down ≤ 99
 
-abbrev pub SmallScan : Scan → Type 0
-SmallScan (Of x) = Small x
-SmallScan NoForm = Unit {0}
+abbrev pub SmallScan : Option Exact → Type 0
+SmallScan (Some x) = Small x
+SmallScan None = Unit {0}
 
 power_small : (s : List ℕ) (negative : Bool) (n : ℕ) (below : Bool) → SmallScan (power_of s (whole negative n) below)
 unfolding power_of
@@ -161,5 +105,9 @@ pointed_is negative w f e k v n a b c h i z =
     past _ _ _ _ (lt-leb 101 (length w) h) (past _ _ _ _ (lt-leb 101 (length f) i) (past _ _ _ _ (ne_eqb (significant f) 0 (λ (y : significant f ≡ 0). z (a ∙ y)))
     (ap (λ (x : ℕ). decimal_value negative x 0 k e) (c ∙ ap (λ (x : ℕ). min 1000000 (numeral_from x (take k f))) b ∙ enough (numeral w) (take k f))
     ∙ as_a_million negative (numeral_from (numeral w) (take k f)) 0 k e
-    ∙ ap (λ (x : ℕ). decimal_value negative x 0 k e) (sym (spells_on w (take k f) 0))
+    ∙ ap (λ (x : ℕ). decimal_value negative x 0 k e) (sym (numeral_on 0 w (take k f)))
     ∙ ap (λ (x : ℕ). decimal_value negative (numeral (w ++ take x f)) 0 x e) a)))
+
+pub ruleset spells = (spells_step, spells_end, spells_more)
+
+pub ruleset parts = (nat_tests, significant_le, length-take, whole_is, pointed_is)

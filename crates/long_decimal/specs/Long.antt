@@ -1,55 +1,50 @@
 -- Decimals as people write them: document 01's form ("Decimal numbers") without its limit of six digits before the exponent, by their value. A value that
 -- needs over six digits is none, and so is one of over 100 digits before or after the point.
-use Rattle.std.specs.Prelude.{Bool, true, false, List, [], ◌∷◌, ◌++◌, ℕ, ◌+◌, ◌-◌, ltb, leb, eqb, length, take, drop}
+use Rattle.std.specs.Prelude.{Bool, true, false, List, [], ◌∷◌, ◌++◌, ℕ, ◌+◌, ◌-◌, ltb, leb, eqb, length, take, drop, None, Option, Some}
 use Rattle.buffer.specs.First.{◌⇒◌, first}
 use Rattle.buffer.specs.Byte.{numeral, leading, starts_with}
+use Rattle.decimal.specs.Digits.{significant}
 use Rattle.decimal.specs.Form.{whole, exponent_of}
-use Rattle.decimal.specs.declared.Scan.{Scan}
-use Rattle.decimal.specs.declared.Scan.TheVariants.{Of, NoForm}
-
--- how many characters there are up to the last that is not `0`
-unfoldable pub significant : List ℕ → ℕ
-significant [] = 0
-significant (x ∷ s) = first (ltb 0 (significant s) ⇒ (significant s + 1) ∷ eqb x 48 ⇒ 0 ∷ []) 1
+use Rattle.decimal.specs.declared.Exact.{Exact}
 
 -- a value times 10 ^ up / 10 ^ down
-unfoldable pub moved_of : ℕ → ℕ → Scan → Scan
-moved_of up down (Of x) = Of (record { negative = x.negative; digits = x.digits; up = x.up + up; down = x.down + down })
-moved_of up down NoForm = NoForm
+unfoldable pub moved_of : ℕ → ℕ → Option Exact → Option Exact
+moved_of up down (Some x) = Some (record { negative = x.negative; digits = x.digits; up = x.up + up; down = x.down + down })
+moved_of up down None = None
 
 -- n * 10 ^ up / 10 ^ down, times the power that the text e says; e is what follows the digits, nothing or an exponent
-unfoldable pub decimal_value : Bool → ℕ → ℕ → ℕ → List ℕ → Scan
-decimal_value negative n up down e = first (leb 1000000 n ⇒ NoForm ∷ []) (moved_of up down (exponent_of e (whole negative n)))
+unfoldable pub decimal_value : Bool → ℕ → ℕ → ℕ → List ℕ → Option Exact
+decimal_value negative n up down e = first (leb 1000000 n ⇒ None ∷ []) (moved_of up down (exponent_of e (whole negative n)))
 
 -- the digits w before the point and f after it: zeros at the end are not among those that count
-unfoldable pub spelled_of : Bool → List ℕ → List ℕ → List ℕ → Scan
+unfoldable pub spelled_of : Bool → List ℕ → List ℕ → List ℕ → Option Exact
 spelled_of negative w f e =
     let m = significant w in
     let k = significant f in
     first
-    (leb 101 (length w) ⇒ NoForm
-    ∷ leb 101 (length f) ⇒ NoForm
+    (leb 101 (length w) ⇒ None
+    ∷ leb 101 (length f) ⇒ None
     ∷ eqb k 0 ⇒ decimal_value negative (numeral (take m w)) (length w - m) 0 e
     ∷ [])
     (decimal_value negative (numeral (w ++ take k f)) 0 k e)
 
 -- after the point: "digits"
-unfoldable pub pointed_of : Bool → List ℕ → List ℕ → Scan
+unfoldable pub pointed_of : Bool → List ℕ → List ℕ → Option Exact
 pointed_of negative w s =
     let k = leading s in
-    first (ltb k 1 ⇒ NoForm ∷ []) (spelled_of negative w (take k s) (drop k s))
+    first (ltb k 1 ⇒ None ∷ []) (spelled_of negative w (take k s) (drop k s))
 
 -- "digits, optionally `.` and digits"
-unfoldable pub unsigned_of : Bool → List ℕ → Scan
+unfoldable pub unsigned_of : Bool → List ℕ → Option Exact
 unsigned_of negative s =
     let n = leading s in
     let t = drop n s in
     first
-    (ltb n 1 ⇒ NoForm
+    (ltb n 1 ⇒ None
     ∷ starts_with 46 t ⇒ pointed_of negative (take n s) (drop 1 t)
     ∷ [])
     (spelled_of negative (take n s) [] t)
 
 -- "an optional `-`"
-unfoldable pub decimal_of : List ℕ → Scan
+unfoldable pub decimal_of : List ℕ → Option Exact
 decimal_of s = first (starts_with 45 s ⇒ unsigned_of true (drop 1 s) ∷ []) (unsigned_of false s)

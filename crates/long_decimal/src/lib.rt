@@ -2,77 +2,53 @@
 // Decimals as people write them: document 01's form without its limit of six digits, by their value (`1013.2500`, `0.0000001`, `1000000`).
 ghost use Rattle.std.specs.Prelude.{◌≡◌, ◌≤◌, min};
 ghost use Rattle.buffer.specs.Byte.{numeral_from};
-ghost use Rattle.long_decimal.specs.Long.{significant, decimal_value, spelled_of, pointed_of, unsigned_of, decimal_of};
+ghost use Rattle.long_decimal.specs.Long.{decimal_value, spelled_of, pointed_of, unsigned_of, decimal_of};
 
-use decimal::{Exact, Scan};
-
-// How many characters there are up to the last that is not `0`.
-fn count_significant(s: &[u8]) -> usize
-    ensures { result ≡ significant s.now }
-{
-    let mut n: usize = 0;
-    let mut i: usize = 0;
-    while i < s.len() {
-        let b = s[i];
-        i += 1;
-        if b != 48 {
-            n = i;
-        }
-    }
-    n
-}
+use decimal::Exact;
 
 // The number that digits spell after another number, or a million where it is more.
+#[tactic(auto, using(crate::proofs::Laws::spells))]
 fn spell_after(v: u32, s: &[u8]) -> u32
     ensures { result ≡ min 1000000 (numeral_from v s.now) }
 {
     let mut n = v;
-    let mut i: usize = 0;
-    while i < s.len() {
+    for b in s {
         if 1000000 <= n {
             return 1000000;
         }
-        n = n * 10 + buffer::value(s[i]);
-        i += 1;
+        n = n * 10 + buffer::value(*b);
     }
-    if 1000000 <= n {
-        return 1000000;
-    }
-    n
+    n.min(1000000)
 }
 
 // A number, moved up and down by powers of ten, with what follows its digits.
-fn value_of(negative: bool, n: u32, up: u8, down: u8, e: &[u8]) -> Scan
+#[tactic(auto, using(std::proofs::lemmas::Bool::Decides::nat_tests, crate::proofs::Laws::exponent_small), unfolding(crate::specs::Long::decimal_value, crate::specs::Long::moved_of, buffer::specs::First::pick))]
+fn value_of(negative: bool, n: u32, up: u8, down: u8, e: &[u8]) -> Option<Exact>
     requires { (up ≤ 100) × (down ≤ 100) }
     ensures { result ≡ decimal_value negative n up down e.now }
 {
     if 1000000 <= n {
-        return Scan::NoForm;
+        return None;
     }
-    match decimal::read_exponent(negative, n, e) {
-        Scan::Of(x) => Scan::Of(Exact {
-            negative: x.negative,
-            digits: x.digits,
-            up: x.up + up,
-            down: x.down + down,
-        }),
-        Scan::NoForm => Scan::NoForm,
-    }
+    let x = decimal::read_exponent(negative, n, e)?;
+    Some(Exact {
+        up: x.up + up,
+        down: x.down + down,
+        ..x
+    })
 }
 
 // The digits before the point, those after it, and what follows them.
-fn spell(negative: bool, w: &[u8], f: &[u8], e: &[u8]) -> Scan
+#[tactic(auto, using(crate::proofs::Laws::parts), unfolding(crate::specs::Long::spelled_of, buffer::specs::First::pick))]
+fn spell(negative: bool, w: &[u8], f: &[u8], e: &[u8]) -> Option<Exact>
     ensures { result ≡ spelled_of negative w.now f.now e.now }
 {
-    if 101 <= w.len() {
-        return Scan::NoForm;
+    if 101 <= w.len() || 101 <= f.len() {
+        return None;
     }
-    if 101 <= f.len() {
-        return Scan::NoForm;
-    }
-    let k = count_significant(f);
+    let k = decimal::count_significant(f);
     if k == 0 {
-        let m = count_significant(w);
+        let m = decimal::count_significant(w);
         let up = (w.len() - m) as u8;
         return value_of(negative, spell_after(0, &w[..m]), up, 0, e);
     }
@@ -81,36 +57,40 @@ fn spell(negative: bool, w: &[u8], f: &[u8], e: &[u8]) -> Scan
 }
 
 // What follows the point.
-fn pointed(negative: bool, w: &[u8], s: &[u8]) -> Scan
+#[tactic(auto, using(std::proofs::lemmas::Bool::Decides::nat_tests, buffer::proofs::Laws::leading_le), unfolding(crate::specs::Long::pointed_of, buffer::specs::First::pick))]
+fn pointed(negative: bool, w: &[u8], s: &[u8]) -> Option<Exact>
     ensures { result ≡ pointed_of negative w.now s.now }
 {
     let k = buffer::count_digits(s);
     if k < 1 {
-        return Scan::NoForm;
+        return None;
     }
-    spell(negative, w, &s[..k], buffer::rest(s, k))
+    let (f, e) = s.split_at(k);
+    spell(negative, w, f, e)
 }
 
-fn unsigned(negative: bool, s: &[u8]) -> Scan
+#[tactic(auto, using(decimal::proofs::Fronts::fronts, buffer::proofs::Laws::leading_le), unfolding(crate::specs::Long::unsigned_of, buffer::specs::First::pick, buffer::specs::Byte::starts_with))]
+fn unsigned(negative: bool, s: &[u8]) -> Option<Exact>
     ensures { result ≡ unsigned_of negative s.now }
 {
     let n = buffer::count_digits(s);
     if n < 1 {
-        return Scan::NoForm;
+        return None;
     }
-    let t = buffer::rest(s, n);
-    if buffer::starts_with(t, b'.') {
-        return pointed(negative, &s[..n], buffer::rest(t, 1));
+    let (w, t) = s.split_at(n);
+    match t {
+        [b'.', f @ ..] => pointed(negative, w, f),
+        _ => spell(negative, w, &[], t),
     }
-    spell(negative, &s[..n], &s[..0], t)
 }
 
 // The exact value of a decimal, or none.
-pub fn read_decimal(s: &[u8]) -> Scan
+#[tactic(auto, using(decimal::proofs::Fronts::fronts), unfolding(crate::specs::Long::decimal_of, buffer::specs::First::pick, buffer::specs::Byte::starts_with))]
+pub fn read_decimal(s: &[u8]) -> Option<Exact>
     ensures { result ≡ decimal_of s.now }
 {
-    if buffer::starts_with(s, b'-') {
-        return unsigned(true, buffer::rest(s, 1));
+    match s {
+        [b'-', t @ ..] => unsigned(true, t),
+        _ => unsigned(false, s),
     }
-    unsigned(false, s)
 }

@@ -1,8 +1,6 @@
 -- When two decimals have the same value.
-use Rattle.std.specs.Prelude.{◌≡◌, ◌*◌, ◌^◌}
+use Rattle.std.specs.Prelude.{◌≡◌, ◌*◌, ◌^◌, None, Option, Some}
 use Rattle.decimal.specs.declared.Exact.{Exact}
-use Rattle.decimal.specs.declared.Scan.{Scan}
-use Rattle.decimal.specs.declared.Scan.TheVariants.{Of, NoForm}
 
 -- two values are the same: digits * 10 ^ up / 10 ^ down, each multiplied by the other's 10 ^ down
 pub record SameValue (x y : Exact) : Type 0 where
@@ -10,6 +8,6 @@ pub record SameValue (x y : Exact) : Type 0 where
   pub size : y.digits * 10 ^ y.up * 10 ^ x.down ≡ x.digits * 10 ^ x.up * 10 ^ y.down
 
 -- a text is read, as this value
-abbrev pub ReadAs : Exact → Scan → Type 0
-ReadAs x (Of y) = SameValue x y
-ReadAs x NoForm = ⊥
+abbrev pub ReadAs : Exact → Option Exact → Type 0
+ReadAs x (Some y) = SameValue x y
+ReadAs x None = ⊥

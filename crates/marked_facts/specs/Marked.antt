@@ -1,5 +1,5 @@
 -- Document 01, "Examples to be proved (marked)": "Proved as a single statement over a list of cases".
-use Rattle.std.specs.Prelude.{Bool, List, [], ◌∷◌, ◌++◌, ℕ, ◌+◌, ◌-◌, length, take}
+use Rattle.std.specs.Prelude.{Bool, List, [], ◌∷◌, ◌++◌, ℕ, ◌+◌, ◌-◌, length, take, Err, Ok, Result}
 use Prim.Native.String.{String}
 use Rattle.buffer.specs.Byte.{same_text}
 use Rattle.buffer.specs.First.{pick}
@@ -26,25 +26,24 @@ use Rattle.gauge_rules.specs.BenchIn.{bench_in}
 use Rattle.gauge_table.specs.After.{answer_of as tableAnswer, next_of, benched}
 use Rattle.opg_commands.specs.Request.{request_pid, request_cmd, request_data}
 use Rattle.opg_commands.specs.declared.Request.TheVariants as command
-use Rattle.opg_request_reader.specs.Asked.{asked_of}
-use Rattle.opg_request_reader.specs.declared.Asked.{Asked}
-use Rattle.opg_request_reader.specs.declared.Asked.TheVariants.{Silent, Error, Accepted}
+use Rattle.opg_request_reader.specs.Asked.{Asked, asked_of, denied_number}
 use Rattle.opg_replies.specs.Reply.{read_of, read_shown}
 use Rattle.opg_facts.specs.Examples.{hex}
+use Rattle.refusals.specs.Number.{refusal_number}
+use Rattle.refusals.specs.declared.Refusal.{Refusal}
 
 -- ---- what is made of the bytes
 
 -- a text request that is read: 0, its address, its access code and command; or the refusal's number
-abbrev pub shown : Request → List ℕ
-shown (asks.V2 address r) = 0 ∷ address ∷ access_of r ∷ command_text (command_in r)
-shown (asks.V1 address r) = 0 ∷ address ∷ letter_v1 r ∷ []
-shown (asks.Refused k) = k ∷ []
+abbrev pub shown : Result Request Refusal → List ℕ
+shown (Ok (asks.V2 address r)) = 0 ∷ address ∷ access_of r ∷ command_text (command_in r)
+shown (Ok (asks.V1 address r)) = 0 ∷ address ∷ letter_v1 r ∷ []
+shown (Err k) = refusal_number k ∷ []
 
 -- an OPG request that is read: 20, CMD, PID and data; or the refusal's number, which is 1000 + e for the error byte e
 abbrev pub opg_shown : Asked → List ℕ
-opg_shown (Silent k) = k ∷ []
-opg_shown (Error e) = (1000 + e) ∷ []
-opg_shown (Accepted r) = 20 ∷ request_cmd r ∷ request_pid r ∷ request_data r
+opg_shown (Ok r) = 20 ∷ request_cmd r ∷ request_pid r ∷ request_data r
+opg_shown (Err d) = denied_number d ∷ []
 
 -- document 01's gauge, at factory settings
 abbrev pub limits : ProfileLimits

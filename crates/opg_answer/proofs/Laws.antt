@@ -2,7 +2,7 @@
 use mathlib.Core.Path.{◌≡◌, refl}
 use mathlib.Core.Bool.{Bool, true, false}
 use mathlib.Core.List.{List, [], ◌∷◌}
-use Prim.Native.Nat.{ℕ, ◌+◌, ◌≤◌}
+use Prim.Native.Nat.{ℕ, ◌≤◌}
 use native.Mathlib.Omega.{arith}
 use borrow.Author.Tests.{ltb-false}
 use lib.Dec.{ltb}
@@ -13,8 +13,11 @@ use Rattle.opg_frame_writer.proofs.Laws.{length_frame, fits}
 use Rattle.opg_commands.specs.Request.{reply_count}
 use Rattle.opg_commands.specs.declared.Request.{Request}
 use Rattle.opg_commands.specs.declared.Request.TheVariants.{ReadPressure, ReadUnit, WriteUnit, DetectionOff, DetectionOn}
-use Rattle.opg_request_reader.specs.declared.Asked.{Asked}
-use Rattle.opg_request_reader.specs.declared.Asked.TheVariants.{Silent, Error, Accepted}
+use Rattle.std.proofs.Common.{Ok, Err}
+use Rattle.opg_frames.specs.Number.{error_byte, error_number}
+use Rattle.opg_frames.specs.declared.Refusal.TheVariants.{Room}
+use Rattle.opg_request_reader.specs.Asked.{Asked, silent}
+use Rattle.opg_request_reader.specs.declared.Denied.TheVariants.{Silent, Error}
 use Rattle.opg_gauge.specs.Judged.{judgement}
 use Rattle.opg_gauge.specs.declared.Gauge.{Gauge}
 use Rattle.opg_answer.specs.Reply.{reply_data, reply_to, answer_of}
@@ -56,14 +59,14 @@ bytes_four g (DetectionOn n gas) = refl
 -- with 32 bytes lent every reply fits
 pub replied_is : (room : ℕ) (g : Gauge) (cmd : ℕ) (a : Asked) → 32 ≤ room → replied room g cmd a ≡ reply_to g cmd a
 unfolding replied reply_to sent_error sent_reply
-replied_is room g cmd (Silent k) h = refl
-replied_is room g cmd (Error e) h = fits room (1000 + e) (e ∷ []) _ (rw length_frame (omega arith)) h (omega arith)
-replied_is room g cmd (Accepted r) h =
+replied_is room g cmd (Err (Silent k)) h = refl
+replied_is room g cmd (Err (Error e)) h = fits room (error_number e) (error_byte e ∷ []) _ (rw length_frame (omega arith)) h (omega arith)
+replied_is room g cmd (Ok r) h =
     let n : length (reply_data g r) ≤ 4 = rw (data_count g r) (count_le g r) in
     fits room 20 (reply_data g r) _ (rw length_frame (omega arith)) h (omega arith)
 
 -- and with less there is none
-little : (room : ℕ) (g : Gauge) (s : List ℕ) → ltb room 32 ≡ true → judgement room g s ≡ Silent 21
+little : (room : ℕ) (g : Gauge) (s : List ℕ) → ltb room 32 ≡ true → judgement room g s ≡ silent Room
 unfolding judgement pick
 little room g s e = rw e
 

@@ -2,7 +2,7 @@
 // The OPG's commands (document 01, "OPG frames"): typed requests, the settings with their factory values and limits, and what a request
 // changes.
 ghost use Rattle.std.specs.Prelude.{◌≡◌};
-ghost use Rattle.opg_commands.specs.Request.{request_pid, reply_cmd, reply_count, outside_of};
+ghost use Rattle.opg_commands.specs.Request.{request_pid, request_cmd, reply_cmd, reply_count, outside_of};
 ghost use Rattle.opg_commands.specs.Settings.{entered};
 
 // A request: one case for each PID and access, with its data. Residual gas detection switched off has neither spectra nor gas.
@@ -20,7 +20,8 @@ pub enum Request {
     DetectionOn(u32, u8),
 }
 
-// The settings: the master unit, and residual gas detection.
+// The settings: the master unit, and residual gas detection. Unit and mode stay numbers: a request's unit may lie outside, which the writer
+// refuses, and the book that is held against the gauge has each setting as a number.
 #[derive(Clone, Copy)]
 pub struct Settings {
     pub unit: u8,
@@ -51,82 +52,73 @@ impl Settings {
         ensures { result ≡ entered self r }
     {
         match r {
-            Request::ReadPressure(_) => self,
-            Request::ReadUnit => self,
-            Request::WriteUnit(u) => Settings {
-                unit: u,
-                mode: self.mode,
-                spectra: self.spectra,
-                gas: self.gas,
-            },
-            Request::DetectionOff => Settings {
-                unit: self.unit,
-                mode: 0,
-                spectra: self.spectra,
-                gas: self.gas,
-            },
-            Request::DetectionOn(n, gas) => Settings {
-                unit: self.unit,
+            Request::ReadPressure(_) | Request::ReadUnit => self,
+            Request::WriteUnit(unit) => Settings { unit, ..self },
+            Request::DetectionOff => Settings { mode: 0, ..self },
+            Request::DetectionOn(spectra, gas) => Settings {
                 mode: 1,
-                spectra: n,
+                spectra,
                 gas,
+                ..self
             },
         }
     }
 }
 
-// Whether a value of the request lies outside its limits.
-#[tactic(auto, unfolding(crate::specs::Request::outside_of))]
-pub fn is_outside(r: Request) -> bool
-    ensures { result ≡ outside_of r }
-{
-    match r {
-        Request::ReadPressure(u) => !buffer::is_within(u, 0, Settings::UNIT_MAX),
-        Request::ReadUnit => false,
-        Request::WriteUnit(u) => !buffer::is_within(u, Settings::UNIT_MIN, Settings::UNIT_MAX),
-        Request::DetectionOff => false,
-        Request::DetectionOn(_, gas) => !buffer::is_within(gas, 0, Settings::GAS_MAX),
+impl Request {
+    // Whether a value of the request lies outside its limits.
+    #[tactic(auto, unfolding(crate::specs::Request::outside_of))]
+    pub fn is_outside(self) -> bool
+        ensures { result ≡ outside_of self }
+    {
+        match self {
+            Request::ReadPressure(u) => !buffer::is_within(u, 0, Settings::UNIT_MAX),
+            Request::WriteUnit(u) => !buffer::is_within(u, Settings::UNIT_MIN, Settings::UNIT_MAX),
+            Request::DetectionOn(_, gas) => !buffer::is_within(gas, 0, Settings::GAS_MAX),
+            Request::ReadUnit | Request::DetectionOff => false,
+        }
     }
-}
 
-// The PID of a request and of its reply.
-#[tactic(auto, unfolding(crate::specs::Request::request_pid))]
-pub fn request_pid(r: Request) -> u16
-    ensures { result ≡ request_pid r }
-{
-    match r {
-        Request::ReadPressure(_) => 14000,
-        Request::ReadUnit => 14001,
-        Request::WriteUnit(_) => 14001,
-        Request::DetectionOff => 22000,
-        Request::DetectionOn(_, _) => 22000,
+    // The PID of the request and of its reply.
+    #[tactic(auto, unfolding(crate::specs::Request::request_pid))]
+    pub fn pid(self) -> u16
+        ensures { result ≡ request_pid self }
+    {
+        match self {
+            Request::ReadPressure(_) => 14000,
+            Request::ReadUnit | Request::WriteUnit(_) => 14001,
+            Request::DetectionOff | Request::DetectionOn(..) => 22000,
+        }
     }
-}
 
-// The CMD of the reply.
-#[tactic(auto, unfolding(crate::specs::Request::request_cmd))]
-pub fn reply_cmd(r: Request) -> u8
-    ensures { result ≡ reply_cmd r }
-{
-    match r {
-        Request::ReadPressure(_) => 2,
-        Request::ReadUnit => 2,
-        Request::WriteUnit(_) => 4,
-        Request::DetectionOff => 4,
-        Request::DetectionOn(_, _) => 4,
+    // Its CMD: 1 reads, 3 writes.
+    #[tactic(auto, unfolding(crate::specs::Request::request_cmd))]
+    pub fn cmd(self) -> u8
+        ensures { result ≡ request_cmd self }
+    {
+        match self {
+            Request::ReadPressure(_) | Request::ReadUnit => 1,
+            Request::WriteUnit(_) | Request::DetectionOff | Request::DetectionOn(..) => 3,
+        }
     }
-}
 
-// How many data bytes an accepted reply has.
-#[tactic(auto, unfolding(crate::specs::Request::reply_count))]
-pub fn reply_count(r: Request) -> usize
-    ensures { result ≡ reply_count r }
-{
-    match r {
-        Request::ReadPressure(_) => 4,
-        Request::ReadUnit => 1,
-        Request::WriteUnit(_) => 0,
-        Request::DetectionOff => 0,
-        Request::DetectionOn(_, _) => 0,
+    // The CMD of the reply.
+    #[tactic(auto, unfolding(crate::specs::Request::request_cmd))]
+    pub fn reply_cmd(self) -> u8
+        ensures { result ≡ reply_cmd self }
+    {
+        self.cmd() + 1
+    }
+
+    // How many data bytes an accepted reply has.
+    #[tactic(auto, unfolding(crate::specs::Request::reply_count))]
+    pub fn reply_count(self) -> usize
+        ensures { result ≡ reply_count self }
+    {
+        match self {
+            Request::ReadPressure(_) => 4,
+            Request::ReadUnit => 1,
+            Request::WriteUnit(_) | Request::DetectionOff | Request::DetectionOn(..) => 0,
+        }
     }
 }

@@ -20,10 +20,8 @@ pub fn crc(s: &[u8]) -> u16
     ensures { result ≡ crc_of s.now }
 {
     let mut c: u32 = 0xffff;
-    let mut i: usize = 0;
-    while i < s.len() {
-        c = byte(c, s[i]);
-        i += 1;
+    for b in s {
+        c = byte(c, *b);
     }
     c as u16
 }

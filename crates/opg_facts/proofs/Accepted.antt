@@ -2,7 +2,7 @@
 use mathlib.Core.Path.{◌≡◌, refl, ap, ◌∙◌}
 use mathlib.Core.Bool.{Bool, true, false, not, ◌&&◌, ◌||◌, true≢false, and-eq-true_iff}
 use mathlib.Core.List.{List, [], ◌∷◌, ◌++◌}
-use Prim.Native.Nat.{ℕ, zero, suc, ◌+◌}
+use Prim.Native.Nat.{ℕ, zero, suc}
 use borrow.Author.Tests.{le-leb, not-true, not-false}
 use lib.Dec.{leb, ltb, eqb}
 use lib.ListN.{length, drop}
@@ -11,11 +11,16 @@ use Rattle.buffer.specs.Byte.{within}
 use Rattle.buffer.proofs.Laws.{within_true}
 use Rattle.opg_frames.specs.Frame.{cmd_of, foreign, wrong_crc, wrong_version, acknowledges, indexed}
 use Rattle.opg_commands.specs.Request.{outside_of}
-use Rattle.opg_request_reader.specs.Asked.{wrong_shape, unknown_cmd, unknown_pid, lacks_access, wrong_count, refusals, meaning, wrong_mode, outside, asked_of, asked_number}
+use Rattle.opg_request_reader.specs.Asked.{Asked, silent, error, wrong_shape, unknown_cmd, unknown_pid, lacks_access, wrong_count, refusals, meaning, wrong_mode, outside, asked_of, denied_number, asked_number}
 use Rattle.opg_commands.specs.declared.Request.{Request}
 use Rattle.opg_commands.specs.declared.Request.TheVariants.{ReadPressure, ReadUnit, WriteUnit, DetectionOff, DetectionOn}
-use Rattle.opg_request_reader.specs.declared.Asked.{Asked}
-use Rattle.opg_request_reader.specs.declared.Asked.TheVariants.{Silent, Error, Accepted}
+use Rattle.std.proofs.Common.{Ok, Err}
+use Rattle.opg_frames.specs.Number.{refusal_number, error_byte, error_number}
+use Rattle.opg_frames.specs.declared.Refusal.{Refusal}
+use Rattle.opg_frames.specs.declared.Refusal.TheVariants.{Room, Shape, Address}
+use Rattle.opg_frames.specs.declared.ErrorByte.{ErrorByte}
+use Rattle.opg_frames.specs.declared.ErrorByte.TheVariants as byte
+use Rattle.opg_request_reader.specs.declared.Denied.TheVariants.{Silent, Error}
 use Rattle.opg_commands.specs.Limits.{unit_low, unit_high, mode_high, gas_high}
 use Rattle.opg_commands.specs.Settings.{entered}
 use Rattle.opg_gauge.specs.Judged.{unavailable, judgement, after}
@@ -44,12 +49,12 @@ gives {A} P ((t ⇒ a) ∷ rows) d h k = go t (λ (f : none rows ≡ true → P 
     go false rest k = rest k
 
 -- rows of refusals: accepted exactly if no test holds
-accepted_rows : (rows : List (Row Asked)) (r : Request) → Each (λ (a : Asked). is_accepted a ≡ false) rows → is_accepted (first rows (Accepted r)) ≡ none rows
+accepted_rows : (rows : List (Row Asked)) (r : Request) → Each (λ (a : Asked). is_accepted a ≡ false) rows → is_accepted (first rows (Ok r)) ≡ none rows
 unfolding pick none is_accepted
 accepted_rows [] r h = refl
 accepted_rows ((t ⇒ a) ∷ rows) r h = go t (accepted_rows rows r h.1)
   where
-    go : (b : Bool) → is_accepted (first rows (Accepted r)) ≡ none rows → is_accepted (pick b a (first rows (Accepted r))) ≡ (not b && none rows)
+    go : (b : Bool) → is_accepted (first rows (Ok r)) ≡ none rows → is_accepted (pick b a (first rows (Ok r))) ≡ (not b && none rows)
     go true e = h.0
     go false e = e
 
@@ -62,7 +67,7 @@ asked_exactly s = accepted_rows (refusals s) (meaning s) (refl, (refl, (refl, (r
 
 -- the gauge's rows: 21, the refusals, 1000
 abbrev pub rows_of : ℕ → Gauge → List ℕ → List (Row Asked)
-rows_of room g s = (ltb room 32 ⇒ Silent 21 ∷ []) ++ refusals s ++ (unavailable g (meaning s) ⇒ Error 0 ∷ [])
+rows_of room g s = (ltb room 32 ⇒ silent Room ∷ []) ++ refusals s ++ (unavailable g (meaning s) ⇒ error byte.Unavailable ∷ [])
 
 -- the gauge accepts exactly if none of its rows applies
 pub accepts_exactly : (room : ℕ) (g : Gauge) (s : List ℕ) → is_accepted (judgement room g s) ≡ none (rows_of room g s)
@@ -70,22 +75,22 @@ unfolding judgement is_accepted
 accepts_exactly room g s = accepted_rows (rows_of room g s) (meaning s) (refl, (refl, (refl, (refl, (refl, (refl, (refl, (refl, (refl, (refl, (refl, (refl, (refl, refl)))))))))))))
 
 -- what the gauge judged has P, if every refusal has it, and the request where no row applies
-pub judged : (P : Asked → Type 0) (room : ℕ) (g : Gauge) (s : List ℕ) → ((k : ℕ) → P (Silent k)) → ((e : ℕ) → P (Error e))
-    → (none (rows_of room g s) ≡ true → P (Accepted (meaning s))) → P (judgement room g s)
+pub judged : (P : Asked → Type 0) (room : ℕ) (g : Gauge) (s : List ℕ) → ((k : Refusal) → P (silent k)) → ((e : ErrorByte) → P (error e))
+    → (none (rows_of room g s) ≡ true → P (Ok (meaning s))) → P (judgement room g s)
 unfolding judgement
-judged P room g s silent error accepted =
-    gives P (rows_of room g s) (Accepted (meaning s))
-    (silent 21, (silent 22, (silent 23, (error 100, (error 104, (error 102, (error 101, (error 3, (error 1, (error 2, (error 4, (error 2, (error 0, refl))))))))))))) accepted
+judged P room g s quiet loud accepted =
+    gives P (rows_of room g s) (Ok (meaning s))
+    (quiet Room, (quiet Shape, (quiet Address, (loud byte.Crc, (loud byte.Version, (loud byte.Acknowledge, (loud byte.Cmd, (loud byte.Pid, (loud byte.Access, (loud byte.Value, (loud byte.Length, (loud byte.Value, (loud byte.Unavailable, refl))))))))))))) accepted
 
 -- the answer's number is document 01's number of what the gauge judged
 pub number_is : NumberIs
-unfolding answer_of reply_to asked_number
+unfolding answer_of reply_to asked_number denied_number
 number_is room g s = go (cmd_of s) (judgement room g s)
   where
     go : (cmd : ℕ) (a : Asked) → (reply_to g cmd a).number ≡ asked_number a
-    go cmd (Silent k) = refl
-    go cmd (Error e) = refl
-    go cmd (Accepted r) = refl
+    go cmd (Err (Silent k)) = refl
+    go cmd (Err (Error e)) = refl
+    go cmd (Ok r) = refl
 
 -- ---- "A request is accepted exactly if lent room, frame, checksum, address, command, access, data and state satisfy document 01"
 
@@ -113,9 +118,9 @@ taken : (a : Asked) → Type 0
 taken a = eqb (asked_number a) 20 ≡ is_accepted a
 
 number_20 : (room : ℕ) (g : Gauge) (s : List ℕ) → taken (judgement room g s)
-unfolding taken judgement asked_number is_accepted
+unfolding taken judgement asked_number denied_number refusal_number error_byte is_accepted
 number_20 room g s =
-    gives taken (rows_of room g s) (Accepted (meaning s)) (refl, (refl, (refl, (refl, (refl, (refl, (refl, (refl, (refl, (refl, (refl, (refl, (refl, refl))))))))))))) (λ _. refl)
+    gives taken (rows_of room g s) (Ok (meaning s)) (refl, (refl, (refl, (refl, (refl, (refl, (refl, (refl, (refl, (refl, (refl, (refl, (refl, refl))))))))))))) (λ _. refl)
 
 -- a request is accepted exactly if it is answered 20
 pub accepted_number : (room : ℕ) (g : Gauge) (s : List ℕ) → eqb (answer_of room g s).number 20 ≡ is_accepted (judgement room g s)
@@ -138,11 +143,11 @@ accepted_exactly room g s =
 Quiet : Gauge → ℕ → Asked → Type 0
 Quiet g cmd a = eqb (length (reply_to g cmd a).reply) 0 ≡ silent_number (reply_to g cmd a).number
 
-error_loud : (g : Gauge) (cmd e : ℕ) → silent_number (1000 + e) ≡ false → Quiet g cmd (Error e)
+error_loud : (g : Gauge) (cmd : ℕ) (e : ErrorByte) → silent_number (error_number e) ≡ false → Quiet g cmd (error e)
 unfolding Quiet reply_to
 error_loud g cmd e h = rw (length_frame, h)
 
-accepted_loud : (g : Gauge) (cmd : ℕ) (r : Request) → Quiet g cmd (Accepted r)
+accepted_loud : (g : Gauge) (cmd : ℕ) (r : Request) → Quiet g cmd (Ok r)
 unfolding Quiet reply_to reply_data within
 accepted_loud g cmd (ReadPressure u) = rw length_frame
 accepted_loud g cmd ReadUnit = rw length_frame
@@ -151,11 +156,11 @@ accepted_loud g cmd DetectionOff = rw length_frame
 accepted_loud g cmd (DetectionOn n gas) = rw length_frame
 
 pub silent_exactly : SilentExactly
-unfolding Quiet answer_of judgement reply_to within
+unfolding Quiet answer_of judgement reply_to within refusal_number error_byte
 silent_exactly room g s =
     let l = error_loud g (cmd_of s) in
-    gives (Quiet g (cmd_of s)) (rows_of room g s) (Accepted (meaning s))
-    (refl, (refl, (refl, (l 100 refl, (l 104 refl, (l 102 refl, (l 101 refl, (l 3 refl, (l 1 refl, (l 2 refl, (l 4 refl, (l 2 refl, (l 0 refl, refl)))))))))))))
+    gives (Quiet g (cmd_of s)) (rows_of room g s) (Ok (meaning s))
+    (refl, (refl, (refl, (l byte.Crc refl, (l byte.Version refl, (l byte.Acknowledge refl, (l byte.Cmd refl, (l byte.Pid refl, (l byte.Access refl, (l byte.Value refl, (l byte.Length refl, (l byte.Value refl, (l byte.Unavailable refl, refl)))))))))))))
     (λ _. accepted_loud g (cmd_of s) (meaning s))
 
 -- ---- what a request changes
@@ -166,9 +171,8 @@ unfolding after_of after is_accepted
 refused_keeps room g s = go (judgement room g s)
   where
     go : (a : Asked) → is_accepted a ≡ false → after g a ≡ g
-    go (Silent k) e = refl
-    go (Error k) e = refl
-    go (Accepted r) e = absurd (true≢false e)
+    go (Err d) e = refl
+    go (Ok r) e = absurd (true≢false e)
 
 -- no request changes the pressure
 pub pressure_stays : PressureStays
@@ -176,9 +180,8 @@ unfolding after_of after
 pressure_stays room g s = go (judgement room g s)
   where
     go : (a : Asked) → (after g a).pressure ≡ g.pressure
-    go (Silent k) = refl
-    go (Error k) = refl
-    go (Accepted r) = refl
+    go (Err d) = refl
+    go (Ok r) = refl
 
 -- ---- limits
 

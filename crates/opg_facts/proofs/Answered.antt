@@ -13,7 +13,10 @@ use Rattle.opg_units.specs.Units.{torr, pascal, micron, product, bits_in}
 use Rattle.opg_commands.specs.Request.{request_pid, request_cmd, reply_cmd, reply_count, outside_of}
 use Rattle.opg_commands.specs.declared.Request.{Request}
 use Rattle.opg_commands.specs.declared.Request.TheVariants.{ReadPressure, ReadUnit, WriteUnit, DetectionOff, DetectionOn}
-use Rattle.opg_request_reader.specs.declared.Asked.TheVariants as A
+use Rattle.std.proofs.Common.{Ok}
+use Rattle.opg_frames.specs.Number.{error_byte}
+use Rattle.opg_frames.specs.declared.ErrorByte.TheVariants as byte
+use Rattle.opg_request_reader.specs.Asked.{error}
 use Rattle.opg_gauge.specs.Judged.{is_pressure_read, unavailable, judgement}
 use Rattle.opg_gauge.specs.Inner.{judged}
 use Rattle.opg_gauge.proofs.Laws.{judged_is}
@@ -23,7 +26,6 @@ use Rattle.opg_request_writer.specs.Written.{request_bytes_of}
 use Rattle.opg_replies.specs.Reply as R
 use Rattle.opg_replies.specs.Reply.{is_error, other_reply, reply_value, read_of}
 use Rattle.opg_replies.specs.declared.Reply.TheVariants.{Error}
-use Rattle.opg_replies.specs.declared.ReadOpg.TheVariants.{Read}
 use Rattle.opg_facts.proofs.Finite.{bits_each, sent_finite}
 use Rattle.opg_facts.specs.Held.{fits32, pressure_read, unit_read, held_of, expected}
 use Rattle.opg_facts.specs.Theorems.{AnswerRead, PressureHeld, UnitHeld}
@@ -54,7 +56,7 @@ unfolding held_of unit_read pick
 unit_held g h = rw h
 
 -- an error reply is read as its error
-pub error_read : (u e : ℕ) → read_of (ReadPressure u) (reply_frame (error_cmd 1) 0xffff (e ∷ [])) ≡ Read (Error e)
+pub error_read : (u e : ℕ) → read_of (ReadPressure u) (reply_frame (error_cmd 1) 0xffff (e ∷ [])) ≡ Ok (Error e)
 unfolding parts_open read_of request_cmd request_pid other_reply is_error R.wrong_count R.needed_of reply_count error_cmd
 error_read u e = rw (crc_right (0 ∷ 11 ∷ 33 ∷ 0 ∷ 6 ∷ 2 ∷ 255 ∷ 255 ∷ 0 ∷ 0 ∷ e ∷ []))
 
@@ -80,7 +82,7 @@ unfolding request_bytes_of cmd_of frame sealed
 cmd_back r = refl
 
 -- the error reply to a pressure's read; no other request is refused here
-error_back : (g : Gauge) (r : Request) → unavailable g r ≡ true → read_of r (reply_frame (error_cmd (request_cmd r)) 0xffff (0 ∷ [])) ≡ Read (Error 0)
+error_back : (g : Gauge) (r : Request) → unavailable g r ≡ true → read_of r (reply_frame (error_cmd (request_cmd r)) 0xffff (0 ∷ [])) ≡ Ok (Error 0)
 unfolding unavailable is_pressure_read request_cmd
 error_back g (ReadPressure u) e = error_read u 0
 error_back g ReadUnit e = absurd (false≢true e)
@@ -89,14 +91,14 @@ error_back g DetectionOff e = absurd (false≢true e)
 error_back g (DetectionOn n gas) e = absurd (false≢true e)
 
 judged_back : (room : ℕ) (g : Gauge) (r : Request) → 32 ≤ room → outside_of r ≡ false → fits32 r ≡ true
-    → judgement room g (request_bytes_of r) ≡ pick (unavailable g r) (A.Error 0) (A.Accepted r)
+    → judgement room g (request_bytes_of r) ≡ pick (unavailable g r) (error byte.Unavailable) (Ok r)
 unfolding judged
 judged_back room g r enough inside fits = judged_is room g (request_bytes_of r) enough ∙ ap (judged g) (read_back r inside fits)
 
 pub answer_read : AnswerRead
-unfolding answer_of expected reply_to pick
+unfolding answer_of expected reply_to error_byte pick
 answer_read room g r enough inside fits bits = rw (cmd_back r, judged_back room g r enough inside fits) (go (unavailable g r) refl)
   where
-    go : (b : Bool) → unavailable g r ≡ b → read_of r (reply_to g (request_cmd r) (pick b (A.Error 0) (A.Accepted r))).reply ≡ pick b (Read (Error 0)) (held_of g r)
+    go : (b : Bool) → unavailable g r ≡ b → read_of r (reply_to g (request_cmd r) (pick b (error byte.Unavailable) (Ok r))).reply ≡ pick b (Ok (Error 0)) (held_of g r)
     go true e = error_back g r e
     go false e = reply_read g r bits

@@ -1,21 +1,18 @@
 -- Document 01: "A request is accepted exactly if lent room, frame, checksum, address, command, access, data and state satisfy document 01".
-use Rattle.std.specs.Prelude.{Bool, true, false, not, ◌&&◌, List, [], ◌∷◌, ℕ, leb, ltb}
+use Rattle.std.specs.Prelude.{Bool, true, false, not, ◌&&◌, List, [], ◌∷◌, ℕ, leb, ltb, Ok, Err}
 use Rattle.buffer.specs.First.{Row, ◌⇒◌}
 use Rattle.buffer.specs.Byte.{within}
 use Rattle.opg_frames.specs.Frame.{foreign, wrong_crc, wrong_version, acknowledges, indexed}
 use Rattle.opg_commands.specs.Limits.{unit_low, unit_high, mode_high, gas_high}
 use Rattle.opg_commands.specs.declared.Settings.{Settings}
-use Rattle.opg_request_reader.specs.Asked.{wrong_shape, unknown_cmd, unknown_pid, lacks_access, wrong_count, meaning, outside}
-use Rattle.opg_request_reader.specs.declared.Asked.{Asked}
-use Rattle.opg_request_reader.specs.declared.Asked.TheVariants.{Silent, Error, Accepted}
+use Rattle.opg_request_reader.specs.Asked.{Asked, wrong_shape, unknown_cmd, unknown_pid, lacks_access, wrong_count, meaning, outside}
 use Rattle.opg_gauge.specs.Judged.{unavailable}
 use Rattle.opg_gauge.specs.declared.Gauge.{Gauge}
 
 -- a request is accepted
 unfoldable pub is_accepted : Asked → Bool
-is_accepted (Silent k) = false
-is_accepted (Error e) = false
-is_accepted (Accepted r) = true
+is_accepted (Ok r) = true
+is_accepted (Err d) = false
 
 -- no row's test holds
 unfoldable pub none : {A : Type 0} → List (Row A) → Bool

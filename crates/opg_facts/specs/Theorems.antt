@@ -1,5 +1,5 @@
 -- What is proved here, each statement as a type; proofs/ has the proofs.
-use Rattle.std.specs.Prelude.{◌≡◌, true, false, ◌&&◌, List, ℕ, ◌<◌, ◌≤◌, eqb, length}
+use Rattle.std.specs.Prelude.{◌≡◌, true, false, ◌&&◌, List, ℕ, ◌<◌, ◌≤◌, eqb, length, Ok}
 use Rattle.std.specs.Float.{binary32}
 use Rattle.std.specs.Float.Ieee.{of_bits, to_bits}
 use Rattle.buffer.specs.Byte.{within, every}
@@ -10,7 +10,6 @@ use Rattle.opg_commands.specs.Settings.{factory}
 use Rattle.opg_commands.specs.declared.Request.{Request}
 use Rattle.opg_commands.specs.declared.Request.TheVariants.{ReadPressure, ReadUnit}
 use Rattle.opg_request_reader.specs.Asked.{refusals, asked_of, asked_number}
-use Rattle.opg_request_reader.specs.declared.Asked.TheVariants.{Accepted}
 use Rattle.opg_gauge.specs.Judged.{judgement}
 use Rattle.opg_gauge.specs.declared.Gauge.{Gauge}
 use Rattle.opg_gauge.specs.declared.Pressure.TheVariants.{Bits}
@@ -18,7 +17,6 @@ use Rattle.opg_answer.specs.Reply.{bits_of, unit_of, answer_of, after_of}
 use Rattle.opg_request_writer.specs.Written.{request_bytes_of}
 use Rattle.opg_replies.specs.Reply.{read_of}
 use Rattle.opg_replies.specs.declared.Reply.TheVariants.{Pressure, Unit}
-use Rattle.opg_replies.specs.declared.ReadOpg.TheVariants.{Read}
 use Rattle.opg_facts.specs.Accepted.{is_accepted, none, has_room, frame_fits, address_fits, checksum_fits, header_fits, command_fits, access_fits, data_fits, state_fits, silent_number, sound}
 use Rattle.opg_facts.specs.Held.{fits32, held_of, expected, is_fin}
 use Rattle.opg_facts.specs.Examples.{right, cases, switched, well, told, fine, sendings}
@@ -27,7 +25,7 @@ use Rattle.opg_facts.specs.Examples.{right, cases, switched, well, told, fine, s
 
 -- "A typed request that the writer accepts, once written and read again, is the same request."
 abbrev pub ReadBack : Type 0
-ReadBack = (r : Request) → outside_of r ≡ false → fits32 r ≡ true → asked_of (request_bytes_of r) ≡ Accepted r
+ReadBack = (r : Request) → outside_of r ≡ false → fits32 r ≡ true → asked_of (request_bytes_of r) ≡ Ok r
 
 -- "A reply that a reader accepts yields the value or error that its bytes mean there.": with 32 bytes lent, the reply to a written request is
 -- read as what the gauge holds, or as error 0 where the pressure is unavailable
@@ -38,10 +36,10 @@ AnswerRead = (room : ℕ) (g : Gauge) (r : Request) → 32 ≤ room → outside_
 -- a pressure that the bench took is read as the f32 in the unit asked for, and a unit within its limits as itself: 28 does not arise
 abbrev pub PressureHeld : Type 0
 PressureHeld = (g : Gauge) (u w : ℕ) → g.pressure ≡ Bits w → measurable w ≡ true
-    → held_of g (ReadPressure u) ≡ Read (Pressure (of_bits binary32 (bits_in (unit_of g u) w)))
+    → held_of g (ReadPressure u) ≡ Ok (Pressure (of_bits binary32 (bits_in (unit_of g u) w)))
 
 abbrev pub UnitHeld : Type 0
-UnitHeld = (g : Gauge) → within unit_low unit_high g.settings.unit ≡ true → held_of g ReadUnit ≡ Read (Unit g.settings.unit)
+UnitHeld = (g : Gauge) → within unit_low unit_high g.settings.unit ≡ true → held_of g ReadUnit ≡ Ok (Unit g.settings.unit)
 
 -- the f32 of finite bits has those bits: nothing of a reply's four bytes is lost
 abbrev pub BitsKept : Type 0

@@ -5,19 +5,22 @@ ghost use Rattle.buffer.specs.Answer.{Stored, Sent};
 ghost use Rattle.opg_frames.specs.Frame.{crc_bytes};
 ghost use Rattle.opg_frame_writer.specs.Written.{frame, written, request_frame, reply_frame};
 
+use opg_frames::Refusal;
+
 // Stores the CRC of all that stands before `at`, low byte first.
+#[tactic(auto, unfolding(opg_frames::specs::Frame::crc_bytes))]
 fn put_crc(out: &mut [u8], at: usize)
     ensures { Stored out.old at (crc_bytes (take at out.old)) out.new }
 {
     if out.len() < at {
         return;
     }
-    let c = opg_crc::crc(&out[..at]);
-    let end = [(c % 256) as u8, (c / 256 % 256) as u8];
+    let end = opg_crc::crc(&out[..at]).to_le_bytes();
     buffer::put(out, at, &end);
 }
 
-// Writes a whole frame at the front of out, and answers `number`. Refuses with 21 where less than 32 bytes are lent or the frame does
+// Writes a whole frame at the front of out, and answers `number`, which document 01 gives the answer. (The parameters are the frame's fields in their
+// order: a struct of them would be made for this one call.) Refuses with 21 where less than 32 bytes are lent or the frame does
 // not fit, with 22 where LEN cannot count the data; then out stays as it was.
 fn write_frame(
     out: &mut [u8],
@@ -32,26 +35,16 @@ fn write_frame(
 {
     let n = bytes.len();
     let room = out.len();
-    if room < 32 {
-        return buffer::Written { number: 21, len: 0 };
-    }
-    if room - 12 < n {
-        return buffer::Written { number: 21, len: 0 };
+    if room < 32 || room - 12 < n {
+        return Refusal::Room.answer();
     }
     if 65530 < n {
-        return buffer::Written { number: 22, len: 0 };
+        return Refusal::Shape.answer();
     }
+    let [len_high, len_low] = (n as u16 + 5).to_be_bytes();
+    let [pid_high, pid_low] = pid.to_be_bytes();
     let head = [
-        0,
-        id,
-        header,
-        ((n + 5) / 256 % 256) as u8,
-        ((n + 5) % 256) as u8,
-        cmd,
-        (pid / 256 % 256) as u8,
-        (pid % 256) as u8,
-        0,
-        0,
+        0, id, header, len_high, len_low, cmd, pid_high, pid_low, 0, 0,
     ];
     buffer::put(out, 0, &head);
     buffer::put(out, 10, bytes);
@@ -62,7 +55,7 @@ fn write_frame(
     }
 }
 
-// Writes a request with this CMD, this PID and these data.
+// Writes a request with this CMD, this PID and these data. (This and the next give `write_frame` the ID and the header of their side.)
 pub fn write_request_frame(
     out: &mut [u8],
     number: u16,

@@ -2,32 +2,15 @@
 use mathlib.Core.Path.{◌≡◌, refl}
 use mathlib.Core.Bool.{Bool, true, false}
 use mathlib.Core.List.{List, [], ◌∷◌, ◌++◌}
+use Rattle.std.proofs.Common.{Ok}
 use Prim.Native.Nat.{ℕ, ◌≤◌}
 use borrow.Author.Tests.{le-ltb}
-use types.Run.{OneOf, miss}
-use denote.Enum.Declared.{tag_of}
 use Rattle.buffer.specs.First.{Row, ◌⇒◌, first, pick}
-use Rattle.opg_request_reader.specs.Asked.{refusals, meaning, asked_of}
-use Rattle.opg_request_reader.specs.declared.Asked.{Asked}
-use Rattle.opg_request_reader.specs.declared.Asked.TheVariants.{Silent, Error, Accepted}
-use Rattle.opg_request_reader.specs.contracts.Asked.{the_type}
-use Rattle.opg_gauge.specs.Judged.{unavailable, judgement, after}
+use Rattle.opg_frames.specs.declared.ErrorByte.TheVariants as byte
+use Rattle.opg_request_reader.specs.Asked.{Asked, error, refusals, meaning, asked_of}
+use Rattle.opg_gauge.specs.Judged.{unavailable, judgement}
 use Rattle.opg_gauge.specs.Inner.{judged}
 use Rattle.opg_gauge.specs.declared.Gauge.{Gauge}
-
--- what is no accepted request stays as it is, and changes nothing
-module _ (g : Gauge) where
-  pub refused_stays : (a : Asked) → OneOf (0 ∷ 1 ∷ []) (tag_of the_type a) → a ≡ judged g a
-  unfolding judged
-  refused_stays (Silent k) h = refl
-  refused_stays (Error e) h = refl
-  refused_stays (Accepted r) h = absurd (miss (0 ∷ 1 ∷ []) 2 tt h)
-
-  pub refused_keeps : (a : Asked) → OneOf (0 ∷ 1 ∷ []) (tag_of the_type a) → g ≡ after g a
-  unfolding after
-  refused_keeps (Silent k) h = refl
-  refused_keeps (Error e) h = refl
-  refused_keeps (Accepted r) h = absurd (miss (0 ∷ 1 ∷ []) 2 tt h)
 
 -- rows that give what f keeps, and then others: f of what the rows give
 abbrev Kept : (Asked → Asked) → List (Row Asked) → Type 0
@@ -48,4 +31,4 @@ pub judged_is : (room : ℕ) (g : Gauge) (s : List ℕ) → 32 ≤ room → judg
 unfolding judgement judged asked_of pick
 judged_is room g s h =
     rw (le-ltb room 32 h)
-    (kept (judged g) (refusals s) (unavailable g (meaning s) ⇒ Error 0 ∷ []) (Accepted (meaning s)) (Accepted (meaning s)) (refl, (refl, (refl, (refl, (refl, (refl, (refl, (refl, (refl, (refl, (refl, refl))))))))))) refl)
+    (kept (judged g) (refusals s) (unavailable g (meaning s) ⇒ error byte.Unavailable ∷ []) (Ok (meaning s)) (Ok (meaning s)) (refl, (refl, (refl, (refl, (refl, (refl, (refl, (refl, (refl, (refl, (refl, refl))))))))))) refl)

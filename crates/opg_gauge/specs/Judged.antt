@@ -1,12 +1,12 @@
 -- Document 01, "OPG frames": what any bytes ask of the gauge, by the first rule that applies, and what they change.
-use Rattle.std.specs.Prelude.{Bool, true, false, ◌&&◌, List, [], ◌∷◌, ◌++◌, ℕ, ltb}
+use Rattle.std.specs.Prelude.{Bool, true, false, ◌&&◌, List, [], ◌∷◌, ◌++◌, ℕ, ltb, Ok, Err}
 use Rattle.buffer.specs.First.{◌⇒◌, first}
 use Rattle.opg_commands.specs.Settings.{entered}
-use Rattle.opg_request_reader.specs.Asked.{refusals, meaning}
+use Rattle.opg_frames.specs.declared.Refusal.TheVariants.{Room}
+use Rattle.opg_frames.specs.declared.ErrorByte.TheVariants as byte
+use Rattle.opg_request_reader.specs.Asked.{Asked, silent, error, refusals, meaning}
 use Rattle.opg_commands.specs.declared.Request.{Request}
 use Rattle.opg_commands.specs.declared.Request.TheVariants.{ReadPressure, ReadUnit, WriteUnit, DetectionOff, DetectionOn}
-use Rattle.opg_request_reader.specs.declared.Asked.{Asked}
-use Rattle.opg_request_reader.specs.declared.Asked.TheVariants.{Silent, Error, Accepted}
 use Rattle.opg_gauge.specs.State.{is_unavailable}
 use Rattle.opg_gauge.specs.declared.Gauge.{Gauge}
 
@@ -25,13 +25,12 @@ unavailable g r = is_pressure_read r && is_unavailable g.pressure
 unfoldable pub judgement : ℕ → Gauge → List ℕ → Asked
 judgement room g s =
     first
-    ((ltb room 32 ⇒ Silent 21 ∷ [])
+    ((ltb room 32 ⇒ silent Room ∷ [])
     ++ refusals s
-    ++ (unavailable g (meaning s) ⇒ Error 0 ∷ []))
-    (Accepted (meaning s))
+    ++ (unavailable g (meaning s) ⇒ error byte.Unavailable ∷ []))
+    (Ok (meaning s))
 
 -- the gauge after a request: a refused request changes nothing, and no request changes the pressure
 unfoldable pub after : Gauge → Asked → Gauge
-after g (Silent k) = g
-after g (Error e) = g
-after g (Accepted r) = record { settings = entered g.settings r; pressure = g.pressure }
+after g (Ok r) = record { settings = entered g.settings r; pressure = g.pressure }
+after g (Err d) = g

@@ -6,7 +6,7 @@ use Rattle.opg_commands.specs.Settings.{factory}
 use Rattle.opg_gauge.specs.declared.Pressure.{Pressure}
 use Rattle.opg_gauge.specs.declared.Pressure.TheVariants.{Bits, Unavailable}
 use Rattle.opg_gauge.specs.declared.Gauge.{Gauge}
-use Rattle.opg_gauge.specs.declared.BenchAnswer.{BenchAnswer}
+use Rattle.buffer.specs.declared.BenchAnswer.{BenchAnswer}
 
 -- the pressure "starts at 0"
 abbrev pub start : Gauge
@@ -22,7 +22,7 @@ takes (Bits w) = measurable w
 takes Unavailable = true
 
 -- "anything else is refused with 15 BENCH and changes nothing"; accepted is "for an OPG 20"
-unfoldable pub benched : Gauge → Pressure → BenchAnswer
+unfoldable pub benched : Gauge → Pressure → BenchAnswer Gauge
 benched g p =
     pick (takes p)
     (record { gauge = record { settings = g.settings; pressure = p }; number = 20 })

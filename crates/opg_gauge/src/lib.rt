@@ -2,14 +2,15 @@
 // The simulated OPG (document 01, "OPG frames"): its state, the bench, what any bytes ask of it, and what they
 // change.
 ghost use Rattle.std.specs.Prelude.{◌≡◌};
-ghost use Rattle.opg_gauge.specs.State.{start, is_unavailable, takes, benched};
-ghost use Rattle.opg_gauge.specs.Judged.{is_pressure_read, judgement, after};
-ghost use Rattle.opg_gauge.specs.Inner.{judged};
+ghost use Rattle.opg_gauge.specs.State.{start, takes, benched};
+ghost use Rattle.opg_gauge.specs.Judged.{judgement, after};
 
+use buffer::BenchAnswer;
 use opg_commands::{Request, Settings};
-use opg_request_reader::Asked;
+use opg_frames::{ErrorByte, Refusal};
+use opg_request_reader::Denied;
 
-// The pressure: the 32 bits of an f32 in mbar, or unavailable.
+// The pressure: the 32 bits of an f32 in mbar, or unavailable. (An Option<u32> is no plainer: its cases would not say bits and unavailable.)
 #[derive(Clone, Copy)]
 pub enum Pressure {
     Bits(u32),
@@ -23,44 +24,16 @@ pub struct Gauge {
     pub pressure: Pressure,
 }
 
-// A gauge after a bench setting, and the setting's number.
-#[derive(Clone, Copy)]
-pub struct BenchAnswer {
-    pub gauge: Gauge,
-    pub number: u16,
-}
-
-#[tactic(auto, unfolding(crate::specs::State::is_unavailable))]
-fn is_unavailable(p: Pressure) -> bool
-    ensures { result ≡ is_unavailable p }
-{
-    match p {
-        Pressure::Bits(_) => false,
-        Pressure::Unavailable => true,
-    }
-}
-
-// Whether the bench takes a pressure.
-#[tactic(auto, unfolding(crate::specs::State::takes))]
-fn is_taken(p: Pressure) -> bool
-    ensures { result ≡ takes p }
-{
-    match p {
-        Pressure::Bits(w) => opg_units::is_measurable(w),
-        Pressure::Unavailable => true,
-    }
-}
-
-#[tactic(auto, unfolding(crate::specs::Judged::is_pressure_read))]
-fn is_pressure_read(r: Request) -> bool
-    ensures { result ≡ is_pressure_read r }
-{
-    match r {
-        Request::ReadPressure(_) => true,
-        Request::ReadUnit => false,
-        Request::WriteUnit(_) => false,
-        Request::DetectionOff => false,
-        Request::DetectionOn(_, _) => false,
+impl Pressure {
+    // Whether the bench takes it.
+    #[tactic(auto, unfolding(crate::specs::State::takes))]
+    fn is_taken(self) -> bool
+        ensures { result ≡ takes self }
+    {
+        match self {
+            Pressure::Bits(w) => opg_units::is_measurable(w),
+            Pressure::Unavailable => true,
+        }
     }
 }
 
@@ -75,69 +48,54 @@ impl Gauge {
         }
     }
 
-    // The bench, document 01's term for what sets the readings from outside, sets the pressure.
+    // The bench, document 01's term for what sets the readings from outside, sets the pressure. (15 and 20 are numbers of answers.)
     #[tactic(auto, unfolding(crate::specs::State::benched, buffer::specs::First::pick))]
-    pub fn bench(self, p: Pressure) -> BenchAnswer
+    pub fn bench(self, p: Pressure) -> BenchAnswer<Gauge>
         ensures { result ≡ benched self p }
     {
-        if !is_taken(p) {
+        if !p.is_taken() {
             return BenchAnswer {
                 gauge: self,
                 number: 15,
             };
         }
-        let settings = self.settings;
         BenchAnswer {
             gauge: Gauge {
-                settings,
                 pressure: p,
+                ..self
             },
             number: 20,
         }
     }
 
-    // A request that was read, held against the pressure.
-    #[tactic(auto, unfolding(crate::specs::Inner::judged, crate::specs::Judged::unavailable, buffer::specs::First::pick))]
-    fn held(self, a: Asked) -> Asked
-        ensures { result ≡ judged self a }
-    {
-        let Asked::Accepted(r) = a else {
-            return a;
-        };
-        if !is_pressure_read(r) {
-            return a;
-        }
-        let p = self.pressure;
-        if !is_unavailable(p) {
-            return a;
-        }
-        Asked::Error(0)
-    }
-
     // What any bytes ask of the gauge, where `room` bytes are lent for the reply.
-    #[tactic(auto, unfolding(crate::specs::Judged::judgement, crate::specs::Inner::judged, opg_request_reader::specs::Asked::asked_of, buffer::specs::First::pick))]
-    pub fn judge(self, room: usize, s: &[u8]) -> Asked
+    #[tactic(auto, using(crate::proofs::Laws::judged_is), unfolding(crate::specs::Judged::judgement, crate::specs::Judged::unavailable, crate::specs::Judged::is_pressure_read, crate::specs::State::is_unavailable, crate::specs::Inner::judged, buffer::specs::First::pick))]
+    pub fn judge(self, room: usize, s: &[u8]) -> Result<Request, Denied>
         ensures { result ≡ judgement room self s.now }
     {
         if room < 32 {
-            return Asked::Silent(21);
+            return Err(Denied::Silent(Refusal::Room));
         }
-        self.held(opg_request_reader::read_request(s))
+        let r = opg_request_reader::read_request(s)?;
+        match (r, self.pressure) {
+            (Request::ReadPressure(_), Pressure::Unavailable) => {
+                Err(Denied::Error(ErrorByte::Unavailable))
+            }
+            _ => Ok(r),
+        }
     }
 
     // The gauge after a request.
     #[tactic(auto, unfolding(crate::specs::Judged::after))]
-    pub fn entered(self, a: Asked) -> Gauge
-        ensures { result ≡ after self a }
+    pub fn entered(self, asked: Result<Request, Denied>) -> Gauge
+        ensures { result ≡ after self asked }
     {
-        let Asked::Accepted(r) = a else {
+        let Ok(r) = asked else {
             return self;
         };
-        let settings = self.settings;
-        let pressure = self.pressure;
         Gauge {
-            settings: settings.with(r),
-            pressure,
+            settings: self.settings.with(r),
+            ..self
         }
     }
 }

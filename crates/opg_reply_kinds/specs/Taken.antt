@@ -1,14 +1,13 @@
--- Document 01: "A reply of another kind never yields a value": the number with which a value is taken out of a reply, on `readingShown`.
+-- Document 01: "A reply of another kind never yields a value": the number with which a value is taken out of a reply, on `expected_shown`.
 use Rattle.std.specs.Prelude.{List, [], ◌∷◌, ℕ, ◌+◌}
 use Rattle.buffer.specs.Byte.{at}
-use Rattle.opg_replies.specs.Reply.{read_shown}
 use Rattle.opg_replies.specs.declared.Reply.{Reply}
 use Rattle.opg_replies.specs.declared.Reply.TheVariants.{Pressure, Unit, Done, Error}
-use Rattle.opg_reply_kinds.specs.Kind.{expected}
+use Rattle.opg_reply_kinds.specs.Kind.{expected, expected_shown}
 
 -- the number with which a value of the kind k is taken out
 abbrev pub taken_number : ℕ → Reply → ℕ
-taken_number k r = at (read_shown (expected k r)) 0
+taken_number k r = at (expected_shown (expected k r)) 0
 
 -- the two numbers, for a pressure and a unit
 abbrev pub numbers_of : Reply → List ℕ

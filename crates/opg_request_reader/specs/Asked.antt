@@ -1,14 +1,19 @@
 -- Document 01, "OPG frames": any bytes read as a request, or the first refusal that applies.
-use Rattle.std.specs.Prelude.{Bool, not, ◌&&◌, ◌||◌, List, [], ◌∷◌, ℕ, ◌+◌, eqb, leb, length}
+use Rattle.std.specs.Prelude.{Bool, not, ◌&&◌, ◌||◌, List, [], ◌∷◌, ℕ, eqb, leb, length, Result, Ok, Err}
 use Rattle.buffer.specs.Byte.{within, word_at}
 use Rattle.buffer.specs.First.{Row, ◌⇒◌, first, pick}
 use Rattle.opg_frames.specs.Frame.{misshapen, foreign, wrong_crc, wrong_version, acknowledges, indexed, cmd_of, pid_of, count_of, data_at}
+use Rattle.opg_frames.specs.Number.{refusal_number, error_number}
+use Rattle.opg_frames.specs.declared.Refusal.{Refusal}
+use Rattle.opg_frames.specs.declared.Refusal.TheVariants as refusal
+use Rattle.opg_frames.specs.declared.ErrorByte.{ErrorByte}
+use Rattle.opg_frames.specs.declared.ErrorByte.TheVariants as byte
 use Rattle.opg_commands.specs.Limits.{mode_high}
 use Rattle.opg_commands.specs.Request.{outside_of}
 use Rattle.opg_commands.specs.declared.Request.{Request}
 use Rattle.opg_commands.specs.declared.Request.TheVariants.{ReadPressure, ReadUnit, WriteUnit, DetectionOff, DetectionOn}
-use Rattle.opg_request_reader.specs.declared.Asked.{Asked}
-use Rattle.opg_request_reader.specs.declared.Asked.TheVariants.{Silent, Error, Accepted}
+use Rattle.opg_request_reader.specs.declared.Denied.{Denied}
+use Rattle.opg_request_reader.specs.declared.Denied.TheVariants.{Silent, Error}
 
 -- "22 length or reserved bits wrong"; "a request at most 128"
 unfoldable pub wrong_shape : List ℕ → Bool
@@ -56,27 +61,40 @@ wrong_mode s = eqb (pid_of s) 22000 && not (within 0 mode_high (data_at s 0))
 unfoldable pub outside : List ℕ → Bool
 outside s = wrong_mode s || outside_of (meaning s)
 
+-- what any bytes are: a request, or a refusal
+abbrev pub Asked : Type 0
+Asked = Result Request Denied
+
+abbrev pub silent : Refusal → Asked
+silent k = Err (Silent k)
+
+abbrev pub error : ErrorByte → Asked
+error e = Err (Error e)
+
 -- the refusals that depend on the bytes alone, in the order of document 01. 22 and 23 are silent; the others are answered with an error byte
 abbrev pub refusals : List ℕ → List (Row Asked)
 refusals s =
-    wrong_shape s ⇒ Silent 22
-    ∷ foreign 0 s ⇒ Silent 23
-    ∷ wrong_crc s ⇒ Error 100
-    ∷ wrong_version s ⇒ Error 104
-    ∷ acknowledges s ⇒ Error 102
-    ∷ unknown_cmd s ⇒ Error 101
-    ∷ unknown_pid s ⇒ Error 3
-    ∷ lacks_access s ⇒ Error 1
-    ∷ indexed s ⇒ Error 2
-    ∷ wrong_count s ⇒ Error 4
-    ∷ outside s ⇒ Error 2
+    wrong_shape s ⇒ silent refusal.Shape
+    ∷ foreign 0 s ⇒ silent refusal.Address
+    ∷ wrong_crc s ⇒ error byte.Crc
+    ∷ wrong_version s ⇒ error byte.Version
+    ∷ acknowledges s ⇒ error byte.Acknowledge
+    ∷ unknown_cmd s ⇒ error byte.Cmd
+    ∷ unknown_pid s ⇒ error byte.Pid
+    ∷ lacks_access s ⇒ error byte.Access
+    ∷ indexed s ⇒ error byte.Value
+    ∷ wrong_count s ⇒ error byte.Length
+    ∷ outside s ⇒ error byte.Value
     ∷ []
 
 unfoldable pub asked_of : List ℕ → Asked
-asked_of s = first (refusals s) (Accepted (meaning s))
+asked_of s = first (refusals s) (Ok (meaning s))
 
--- document 01's number for each answer: "with error byte e and number 1000 + e"; "Accepted is 20"
+-- document 01's number for each answer; "Accepted is 20"
+unfoldable pub denied_number : Denied → ℕ
+denied_number (Silent k) = refusal_number k
+denied_number (Error e) = error_number e
+
 unfoldable pub asked_number : Asked → ℕ
-asked_number (Silent k) = k
-asked_number (Error e) = 1000 + e
-asked_number (Accepted r) = 20
+asked_number (Ok r) = 20
+asked_number (Err d) = denied_number d

@@ -19,12 +19,11 @@ use Rattle.opg_units.specs.Units.{finite, measurable, bits_in}
 use Rattle.opg_commands.specs.Limits.{unit_low, unit_high, mode_high, gas_high}
 use Rattle.opg_commands.specs.Settings.{factory, entered}
 use Rattle.opg_commands.specs.declared.Settings.{Settings}
-use Rattle.opg_request_reader.specs.Asked.{unknown_cmd, unknown_pid, lacks_access, meaning, wrong_mode}
-use Rattle.opg_request_reader.specs.declared.Asked.{Asked}
+use Rattle.opg_request_reader.specs.Asked.{Asked, unknown_cmd, unknown_pid, lacks_access, meaning, wrong_mode}
 use Rattle.opg_gauge.specs.State.{start, takes}
 use Rattle.opg_gauge.specs.State as State
 use Rattle.opg_gauge.specs.Judged.{judgement, after}
-use Rattle.opg_gauge.specs.declared.BenchAnswer.{BenchAnswer}
+use Rattle.buffer.specs.declared.BenchAnswer.{BenchAnswer}
 use Rattle.opg_gauge.specs.declared.Gauge.{Gauge}
 use Rattle.opg_gauge.specs.declared.Pressure.{Pressure}
 use Rattle.opg_gauge.specs.declared.Pressure.TheVariants.{Bits, Unavailable}
@@ -123,7 +122,7 @@ module _ (g : Gauge) (s : List ℕ) (k : Key) where
 
 module _ (g : Gauge) (p : Pressure) where
   -- the pressure taken, and not taken
-  abbrev answered : Bool → BenchAnswer
+  abbrev answered : Bool → BenchAnswer Gauge
   answered b = pick b (record { gauge = record { settings = g.settings; pressure = p }; number = 20 }) (record { gauge = g; number = 15 })
 
   bench_settings : (State.benched g p).gauge.settings ≡ g.settings
@@ -215,9 +214,9 @@ sofar (ask {h} {g} {s} {before} {after} {r} t (sent, moved)) =
 sofar (set_bench {h} {g} {p} {r} t e) =
     let c = sofar t in
     record {
-      answers = (subst (λ (m : Model). Fixed m (bench_set p r.number)) c.holds (ap (λ (x : BenchAnswer). x.number) e), c.answers);
-      holds = ap (λ (x : BenchAnswer). held x.gauge) e ∙ ap (λ (m : Model). step m (bench p)) c.holds;
-      setting = λ key. ap (λ (x : BenchAnswer). holding key x.gauge.settings) e ∙ ap (holding key) (bench_settings g p) ∙ c.setting key;
+      answers = (subst (λ (m : Model). Fixed m (bench_set p r.number)) c.holds (ap (λ (x : BenchAnswer Gauge). x.number) e), c.answers);
+      holds = ap (λ (x : BenchAnswer Gauge). held x.gauge) e ∙ ap (λ (m : Model). step m (bench p)) c.holds;
+      setting = λ key. ap (λ (x : BenchAnswer Gauge). holding key x.gauge.settings) e ∙ ap (holding key) (bench_settings g p) ∙ c.setting key;
       pressure = follows says_pressure start.pressure (bench_set p r.number) h g.pressure r.gauge.pressure c.pressure (rw e (bench_pressure g p));
       in_limits = rw (e, bench_settings g p) c.in_limits;
       taken = rw e (bench_takes g p c.taken);

@@ -10,11 +10,11 @@ use Rattle.opg_commands.specs.Limits.{unit_low, unit_high, mode_high, gas_high}
 use Rattle.opg_commands.specs.Settings.{factory}
 use Rattle.opg_commands.specs.declared.Settings.{Settings}
 use Rattle.opg_gauge.specs.State.{start, takes, benched}
-use Rattle.opg_gauge.specs.declared.BenchAnswer.{BenchAnswer}
+use Rattle.buffer.specs.declared.BenchAnswer.{BenchAnswer}
 use Rattle.opg_gauge.specs.declared.Gauge.{Gauge}
 use Rattle.opg_gauge.specs.declared.Pressure.{Pressure}
 use Rattle.opg_answer.specs.Reply.{bits_of, answer_of, after_of}
-use Rattle.opg_answer.specs.declared.Answered.{Answered}
+use Rattle.buffer.specs.declared.Answered.{Answered}
 use Rattle.opg_sequence_facts.specs.Model.{Fed, request, bench, Model, held, gauge_of, model_of}
 
 -- ---- calls
@@ -42,10 +42,10 @@ model h = model_of (map fed h)
 -- of their result r.
 pub data Trace : History → Gauge → Type 0 where
   begin : {r : Gauge} → r ≡ start → Trace [] r
-  ask : {h : History} {g : Gauge} {s before after : List ℕ} {r : Answered} → Trace h g
+  ask : {h : History} {g : Gauge} {s before after : List ℕ} {r : Answered Gauge} → Trace h g
       → Sent before (answer_of (length before) g s) after r.written × (r.gauge ≡ after_of (length before) g s)
       → Trace (asked s before r.written.number r.written.len after ∷ h) r.gauge
-  set_bench : {h : History} {g : Gauge} {p : Pressure} {r : BenchAnswer} → Trace h g → r ≡ benched g p → Trace (bench_set p r.number ∷ h) r.gauge
+  set_bench : {h : History} {g : Gauge} {p : Pressure} {r : BenchAnswer Gauge} → Trace h g → r ≡ benched g p → Trace (bench_set p r.number ∷ h) r.gauge
 
 -- ---- what the rules fix
 

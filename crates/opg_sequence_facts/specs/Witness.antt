@@ -5,7 +5,8 @@ use Rattle.opg_gauge.specs.State as State
 use Rattle.opg_gauge.specs.declared.Pressure.{Pressure}
 use Rattle.opg_gauge.specs.declared.Pressure.TheVariants.{Bits}
 use Rattle.opg_answer.specs.Reply.{answer_of, after_of}
-use Rattle.opg_answer.specs.declared.Answered.{Answered}
+use Rattle.buffer.specs.declared.Answered.{Answered}
+use Rattle.opg_gauge.specs.declared.Gauge.{Gauge}
 use Rattle.opg_facts.specs.Examples.{hex}
 use Rattle.opg_sequence_facts.specs.Model.{Model, gauge_of}
 use Rattle.opg_sequence_facts.specs.Sequence.{Exchange, asked, bench_set, History, model}
@@ -20,7 +21,7 @@ call_of (asked s before number len after) = asks s before
 call_of (bench_set p number) = tells p
 
 -- what `answer` returns where the model holds this
-abbrev pub answered : Model → List ℕ → List ℕ → Answered
+abbrev pub answered : Model → List ℕ → List ℕ → Answered Gauge
 answered m s before =
     record {
       gauge = after_of (length before) (gauge_of m) s;

@@ -21,7 +21,8 @@ use Rattle.script.specs.Script.{request_of, line_of, exact_at, setting_of, press
 use Rattle.script.specs.declared.To.{To}
 use Rattle.script.specs.declared.To.TheVariants.{Text, Opg}
 use Rattle.script.specs.declared.Call.{Call}
-use Rattle.script.specs.declared.Call.TheVariants.{Request, Line, SetBench, SetOpgBench, End}
+use Rattle.script.specs.declared.Call.TheVariants.{Request, Line, SetBench, SetOpgBench}
+use Rattle.std.specs.Prelude.{None, Option, Some}
 use Rattle.sources.specs.declared.Profile.{Profile}
 use Rattle.player.specs.Played.{in_order, answer_to, line_for, Standing, made, advance, play_of, beginning, ends}
 use Rattle.player.proofs.Advance.{advances}
@@ -79,12 +80,12 @@ call_for (line lent) = Line lent
 call_for (bench b) = SetBench b
 call_for (pressure p) = SetOpgBench p
 
-read_request : (to : To) (l : List ℕ) (lent n : ℕ) → 5 ≤ length l → at l 0 ≡ kind_of to → pair_at l 1 ≡ lent → pair_at l 3 ≡ n → n ≤ length l - 5 → call_of l ≡ Request to lent n
+read_request : (to : To) (l : List ℕ) (lent n : ℕ) → 5 ≤ length l → at l 0 ≡ kind_of to → pair_at l 1 ≡ lent → pair_at l 3 ≡ n → n ≤ length l - 5 → call_of l ≡ Some (Request to lent n)
 unfolding call_of request_of pick
 read_request Text l lent n h z p q k = rw (le-ltb (length l) 1 (omega arith), z, le-ltb (length l) 5 h, q, p, le-ltb (length l - 5) n k)
 read_request Opg l lent n h z p q k = rw (le-ltb (length l) 1 (omega arith), z, le-ltb (length l) 5 h, q, p, le-ltb (length l - 5) n k)
 
-read_line : (l : List ℕ) (lent : ℕ) → 3 ≤ length l → at l 0 ≡ 1 → pair_at l 1 ≡ lent → call_of l ≡ Line lent
+read_line : (l : List ℕ) (lent : ℕ) → 3 ≤ length l → at l 0 ≡ 1 → pair_at l 1 ≡ lent → call_of l ≡ Some (Line lent)
 unfolding call_of line_of pick
 read_line l lent h z p = rw (le-ltb (length l) 1 (omega arith), z, le-ltb (length l) 3 h, p)
 
@@ -92,18 +93,18 @@ read_line l lent h z p = rw (le-ltb (length l) 1 (omega arith), z, le-ltb (lengt
 read_setting : (l : List ℕ) (which : ℕ) → 10 ≤ length l → at l 0 ≡ 2 → at l 1 ≡ which
     → call_of l
     ≡ first
-    (eqb which 0 ⇒ SetBench (Reads (at l 2) (exact_at l))
-    ∷ eqb which 1 ⇒ SetBench (UnderRange (at l 2))
-    ∷ eqb which 2 ⇒ SetBench (OverRange (at l 2))
-    ∷ eqb which 3 ⇒ SetBench (Faulty (at l 2))
-    ∷ eqb which 4 ⇒ SetBench (Status (at l 2))
+    (eqb which 0 ⇒ Some (SetBench (Reads (at l 2) (exact_at l)))
+    ∷ eqb which 1 ⇒ Some (SetBench (UnderRange (at l 2)))
+    ∷ eqb which 2 ⇒ Some (SetBench (OverRange (at l 2)))
+    ∷ eqb which 3 ⇒ Some (SetBench (Faulty (at l 2)))
+    ∷ eqb which 4 ⇒ Some (SetBench (Status (at l 2)))
     ∷ [])
-    End
+    None
 unfolding call_of setting_of pick
 read_setting l which h z w = rw (le-ltb (length l) 1 (omega arith), z, le-ltb (length l) 10 h, w)
 
 read_opg_bench : (l : List ℕ) (which : ℕ) → 6 ≤ length l → at l 0 ≡ 4 → at l 1 ≡ which
-    → call_of l ≡ first (eqb which 0 ⇒ SetOpgBench (Bits (word_at l 2)) ∷ eqb which 1 ⇒ SetOpgBench Unavailable ∷ []) End
+    → call_of l ≡ first (eqb which 0 ⇒ Some (SetOpgBench (Bits (word_at l 2))) ∷ eqb which 1 ⇒ Some (SetOpgBench Unavailable) ∷ []) None
 unfolding call_of pressure_of pick
 read_opg_bench l which h z w = rw (le-ltb (length l) 1 (omega arith), z, le-ltb (length l) 6 h, w)
 
@@ -115,19 +116,19 @@ value_is : (x : Exact) (code : ℕ) (rest : List ℕ) → exact_at (bytes_of (be
 unfolding bytes_of bench_bytes exact_at
 value_is x code rest = rw (word_is x.digits, sign_is x.negative)
 
-front : (f : Fed) (rest : List ℕ) → call_of (bytes_of f ++ rest) ≡ call_for f
+front : (f : Fed) (rest : List ℕ) → call_of (bytes_of f ++ rest) ≡ Some (call_for f)
 unfolding bytes_of bench_bytes pressure_bytes pick
 front (request to s lent) rest = read_request to _ lent (length s) (omega arith) refl (omega arith) (omega arith) (simp length-append (omega arith))
 front (line lent) rest = read_line _ lent (omega arith) refl (omega arith)
-front (bench (Reads code x)) rest = read_setting _ 0 (omega arith) refl refl ∙ ap (λ (y : Exact). SetBench (Reads code y)) (value_is x code rest)
+front (bench (Reads code x)) rest = read_setting _ 0 (omega arith) refl refl ∙ ap (λ (y : Exact). Some (SetBench (Reads code y))) (value_is x code rest)
 front (bench (UnderRange code)) rest = read_setting _ 1 (omega arith) refl refl
 front (bench (OverRange code)) rest = read_setting _ 2 (omega arith) refl refl
 front (bench (Faulty code)) rest = read_setting _ 3 (omega arith) refl refl
 front (bench (Status v)) rest = read_setting _ 4 (omega arith) refl refl
-front (pressure (Bits w)) rest = read_opg_bench _ 0 (omega arith) refl refl ∙ ap (λ (n : ℕ). SetOpgBench (Bits n)) (word_is w)
+front (pressure (Bits w)) rest = read_opg_bench _ 0 (omega arith) refl refl ∙ ap (λ (n : ℕ). Some (SetOpgBench (Bits n))) (word_is w)
 front (pressure Unavailable) rest = read_opg_bench _ 1 (omega arith) refl refl
 
-room_is : (f : Fed) → room_of (call_for f) ≡ lent_to f
+room_is : (f : Fed) → room_of (Some (call_for f)) ≡ lent_to f
 room_is (request to s lent) = refl
 room_is (line lent) = refl
 room_is (bench b) = refl
@@ -171,7 +172,7 @@ record Next (script : List ℕ) (f : Fed) (rest : List ℕ) (p q : Standing) : T
   long : length q.memory ≡ length p.memory
 
 next : (profile : Profile) (script : List ℕ) (p : Standing) (f : Fed) (rest : List ℕ) → drop p.at script ≡ bytes_of f ++ rest → p.used + lent_to f ≤ length p.memory
-    → Next script f rest p (made profile script p (call_for f))
+    → Next script f rest p (made profile script p (Some (call_for f)))
 unfolding bytes_of made
 next profile script p (request to s lent) rest d fits =
     let b = request_read script s rest p.at (kind_of to) lent (length s) d refl in
@@ -205,7 +206,7 @@ record Walk (fs : List Fed) (memory : List ℕ) (n : ℕ) (p : Standing) : Type 
   count : length left ≡ length fs - n
 
 -- no call stands at the end
-none_there : call_of [] ≡ End
+none_there : call_of [] ≡ None
 unfolding call_of pick
 none_there = refl
 
@@ -214,12 +215,12 @@ step : (profile : Profile) (fs : List Fed) (memory : List ℕ) (n : ℕ) (p : St
     → Walk fs memory (suc n) (advance profile (script_of fs) p)
 unfolding script_of lent_to_all made
 step profile fs memory n p room [] o r l m c =
-    rw (advances profile (script_of fs) p End (ap call_of r ∙ none_there) (omega arith)) (record { left = []; order = o; rest = r; lent = l; long = m; count = omega arith })
+    rw (advances profile (script_of fs) p None (ap call_of r ∙ none_there) (omega arith)) (record { left = []; order = o; rest = r; lent = l; long = m; count = omega arith })
 step profile fs memory n p room (f ∷ left) o r l m c =
-    let k : call_at (script_of fs) p.at ≡ call_for f = ap call_of r ∙ front f (script_of left) in
+    let k : call_at (script_of fs) p.at ≡ Some (call_for f) = ap call_of r ∙ front f (script_of left) in
     let fits : p.used + lent_to f ≤ length p.memory = omega arith in
     let x = next profile (script_of fs) p f (script_of left) r fits in
-    rw (advances profile (script_of fs) p (call_for f) k (subst (λ (n : ℕ). p.used + n ≤ length p.memory) (sym (room_is f)) fits))
+    rw (advances profile (script_of fs) p (Some (call_for f)) k (subst (λ (n : ℕ). p.used + n ≤ length p.memory) (sym (room_is f)) fits))
     (record {
       left = left;
       order = ap (λ (h : List Fed). h ++ left) x.order ∙ append_snoc (in_order fed p.history) f left ∙ o;

@@ -1,7 +1,5 @@
 -- The loop of a play on plain values: what holds of the calls made so far, how one call more keeps it, and what it gives at the end.
 use mathlib.Core.Path.{◌≡◌, refl, sym, ap, subst, ◌∙◌}
-use mathlib.Core.Bool.{true, false, not, true≢false}
-use mathlib.Core.Logic.{inl, inr}
 use mathlib.Core.List.{List, [], ◌∷◌, ◌++◌}
 use Prim.Native.Nat.{ℕ, zero, suc, ◌+◌, ◌-◌, ◌<◌, ◌≤◌, min}
 use native.Mathlib.Nat.{add-zero, add-suc}
@@ -11,11 +9,9 @@ use lib.ListN.{length, drop, get_or, set, length-append, length-set}
 use lib.Seq.{drop-cons, append_snoc, set_at}
 use Rattle.sequence_facts.proofs.Claimed as text
 use Rattle.opg_sequence_facts.proofs.Claimed as opg
-use Rattle.sequence_facts.proofs.Claimed as text
-use Rattle.opg_sequence_facts.proofs.Claimed as opg
 use Rattle.sources.specs.declared.Profile.{Profile}
 use Rattle.player.specs.Played.{Exchange, History, answered_number, length_of, in_order, Standing, advance, play_of, beginning, Claims, ends, Ran}
-use Rattle.player.specs.Inner.{Traces, Took, One}
+use Rattle.player.specs.Inner.{Traces, Took, Still}
 use Rattle.player.specs.declared.Gauges.{Gauges}
 use Rattle.player.specs.declared.Turn.{Turn}
 
@@ -79,33 +75,27 @@ unfolding play_of
 rests profile script b i zero e f = ap (λ (n : ℕ). play_of profile n script b) (add-zero i) ∙ e
 rests profile script b i (suc k) e f = ap (λ (n : ℕ). play_of profile n script b) (add-suc i k) ∙ ap (advance profile script) (rests profile script b i k e f) ∙ f
 
-took : {profile : Profile} {script memory₀ numbers₀ lens₀ : List ℕ} {g : Gauges} {at used i : ℕ} {memory numbers lens : List ℕ} {r : Turn} {memory' : List ℕ}
+-- a call was made: it is kept
+pub next : {profile : Profile} {script memory₀ numbers₀ lens₀ : List ℕ} {g : Gauges} {at used i : ℕ} {memory numbers lens : List ℕ} {r : Turn} {memory' : List ℕ}
     → i < length numbers₀ → i < length lens₀ → length memory' ≡ length memory → Sofar profile script memory₀ numbers₀ lens₀ g at used i memory numbers lens
     → Took script memory g at used r memory'
-    → Sofar profile script memory₀ numbers₀ lens₀ r.gauges r.at r.used (i + 1) memory' (set numbers i r.number) (set lens i r.len)
-took {profile} {script} {memory₀} {numbers₀} {lens₀} {i = i} {numbers = numbers} {lens = lens} {r = r} in-numbers in_lens same s t =
+    → Sofar profile script memory₀ numbers₀ lens₀ r.answered.gauges r.at r.used (i + 1) memory' (set numbers i r.answered.number) (set lens i r.answered.len)
+next {profile} {script} {memory₀} {numbers₀} {lens₀} {i = i} {numbers = numbers} {lens = lens} {r = r} in-numbers in_lens same s t =
+    let a = r.answered in
     record {
       history = t.exchange ∷ s.history;
       stands = advanced profile script (beginning memory₀) i s.stands (t.advances profile s.history s.trace);
       places = omega arith;
       trace = t.made.follows profile s.history s.trace;
       count = add-one i ∙ ap suc s.count;
-      numbers_are = kept answered_number t.exchange s.history numbers₀ numbers i r.number s.numbers_are s.count in-numbers t.made.number_is;
-      lengths_are = kept length_of t.exchange s.history lens₀ lens i r.len s.lengths_are s.count in_lens t.made.length_is;
+      numbers_are = kept answered_number t.exchange s.history numbers₀ numbers i a.number s.numbers_are s.count in-numbers t.made.number_is;
+      lengths_are = kept length_of t.exchange s.history lens₀ lens i a.len s.lengths_are s.count in_lens t.made.length_is;
       at_in = t.at_in;
       used_in = subst (λ (k : ℕ). r.used ≤ k) (sym same) t.used_in;
       memory_long = same ∙ s.memory_long;
-      numbers_long = length-set numbers i r.number ∙ s.numbers_long;
-      lens_long = length-set lens i r.len ∙ s.lens_long;
+      numbers_long = length-set numbers i a.number ∙ s.numbers_long;
+      lens_long = length-set lens i a.len ∙ s.lens_long;
     }
-
--- a call was made: it is kept
-pub next : {profile : Profile} {script memory₀ numbers₀ lens₀ : List ℕ} {g : Gauges} {at used i : ℕ} {memory numbers lens : List ℕ} {r : Turn} {memory' : List ℕ}
-    → i < length numbers₀ → i < length lens₀ → length memory' ≡ length memory → not r.more ≡ false
-    → Sofar profile script memory₀ numbers₀ lens₀ g at used i memory numbers lens → One script memory g at used r memory'
-    → Sofar profile script memory₀ numbers₀ lens₀ r.gauges r.at r.used (i + 1) memory' (set numbers i r.number) (set lens i r.len)
-next in-numbers in_lens same more s (inl q) = absurd (true≢false (sym (ap not q.none_made) ∙ more))
-next in-numbers in_lens same more s (inr t) = took in-numbers in_lens same s t
 
 -- the claim follows for each gauge
 claimed : {profile : Profile} {h : History} {g : Gauges} → Traces profile h g → Claims profile h g
@@ -135,15 +125,14 @@ full {profile} {script} {memory₀} {numbers₀} {lens₀} {i = i} s h =
     done s (ap (λ (n : ℕ). play_of profile n script (beginning memory₀)) e)
 
 -- no call was made: all is as it was
-pub stops : {profile : Profile} {script memory₀ numbers₀ lens₀ : List ℕ} {g : Gauges} {at used i : ℕ} {memory numbers lens : List ℕ} {r : Turn} {memory' : List ℕ}
-    → not r.more ≡ true → Sofar profile script memory₀ numbers₀ lens₀ g at used i memory numbers lens
-    → One script memory g at used r memory' → Ran profile script memory₀ numbers₀ lens₀ g i memory' numbers lens
-stops {profile} {script} {memory₀} {numbers₀} {lens₀} {g} {at} {used} {i} {memory} {numbers} {lens} stop s (inl q) =
+pub stops : {profile : Profile} {script memory₀ numbers₀ lens₀ : List ℕ} {g : Gauges} {at used i : ℕ} {memory numbers lens memory' : List ℕ}
+    → Sofar profile script memory₀ numbers₀ lens₀ g at used i memory numbers lens
+    → Still script memory at used memory' → Ran profile script memory₀ numbers₀ lens₀ g i memory' numbers lens
+stops {profile} {script} {memory₀} {numbers₀} {lens₀} {g} {at} {used} {i} {memory} {numbers} {lens} s q =
     let places = min (length numbers₀) (length lens₀) in
     let e : places ≡ i + (places - i) = omega (arith, s.places) in
     subst (λ (m : List ℕ). Ran profile script memory₀ numbers₀ lens₀ g i m numbers lens) (sym q.memory_is)
     (done s (ap (λ (n : ℕ). play_of profile n script (beginning memory₀)) e ∙ rests profile script (beginning memory₀) i (places - i) s.stands (q.stands profile s.history) ∙ sym s.stands))
-stops stop s (inr t) = absurd (true≢false (sym stop ∙ ap not t.made.more_is))
 
 -- ---- the profile that the gauge has is the one that it started with
 

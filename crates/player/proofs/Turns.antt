@@ -1,7 +1,5 @@
 -- One call of a script, on plain values.
 use mathlib.Core.Path.{◌≡◌, refl, sym, ap, subst, ◌∙◌}
-use mathlib.Core.Bool.{true, false}
-use mathlib.Core.Logic.{inl, inr}
 use mathlib.Core.List.{List, ◌∷◌, ◌++◌, append_assoc}
 use Prim.Native.Nat.{ℕ, ◌+◌, ◌-◌, ◌<◌, ◌≤◌}
 use native.Mathlib.Nat.{add-sub_cancel_left}
@@ -14,19 +12,18 @@ use Rattle.readings.specs.declared.Bench.{Bench}
 use Rattle.opg_gauge.specs.declared.Pressure.{Pressure}
 use Rattle.sequence_facts.proofs.Claimed as text
 use Rattle.opg_sequence_facts.proofs.Claimed as opg
-use Rattle.sequence_facts.proofs.Claimed as text
-use Rattle.opg_sequence_facts.proofs.Claimed as opg
 use Rattle.script.specs.Script.{call_at, room_of}
 use Rattle.script.specs.declared.To.{To}
 use Rattle.script.specs.declared.To.TheVariants.{Text, Opg}
 use Rattle.script.specs.declared.Call.{Call}
-use Rattle.script.specs.declared.Call.TheVariants.{Request, Line, SetBench, SetOpgBench, End}
+use Rattle.script.specs.declared.Call.TheVariants.{Request, Line, SetBench, SetOpgBench}
+use Rattle.std.specs.Prelude.{None, Option, Some}
 use Rattle.sources.specs.declared.Profile.{Profile}
 use Rattle.player.specs.Played.{Exchange, asked, lined, bench_set, opg_bench_set, History, answered_number, length_of, answer_to, line_for, bench_number_for, opg_bench_number, Standing, answered, made, advance}
 use Rattle.player.proofs.Advance.{advances, stands}
 use Rattle.player.specs.Inner.{Traces, Made, One}
 use Rattle.player.specs.declared.Gauges.{Gauges}
-use Rattle.player.specs.declared.Turn.{Turn}
+use Rattle.player.specs.declared.Answered.{Answered}
 
 -- a reply is no longer than the memory lent
 pub reply_fits : {before after : List ℕ} {a : Answer} {w : Written} → Sent before a after w → length after ≡ length before → w.len ≤ length before
@@ -35,39 +32,13 @@ reply_fits {before} {after} {a} {w} f e =
     let long : length after ≡ length a.reply + length (drop (length a.reply) before) = ap length f.memory ∙ length-append a.reply (drop (length a.reply) before) in
     omega (arith, f.len)
 
--- after a call with the number n and the length l
-abbrev turn : Gauges → ℕ → ℕ → ℕ → ℕ → Turn
-turn g at used n l = record { gauges = g; at = at; used = used; number = n; len = l; more = true }
-
-made_by : (g : Gauges) (e : ℕ → ℕ → Exchange) (g' : Gauges) (at used n l : ℕ) (r : Turn) → r ≡ turn g' at used n l → answered_number (e n l) ≡ n → length_of (e n l) ≡ l
-    → ((profile : Profile) (h : History) → Traces profile h g → Traces profile (e n l ∷ h) g') → Made g (e r.number r.len) at used r
-made_by g e g' at used n l r q number length follows =
-    subst (λ (r : Turn). Made g (e r.number r.len) at used r) (sym q)
-    (record { more_is = refl; at_is = refl; used_is = refl; number_is = sym number; length_is = sym length; follows = follows })
-
-module _ {g g' : Gauges} {at used n : ℕ} {r : Turn} where
-  pub asked_made : (to : To) {l : ℕ} {s before after : List ℕ} → r ≡ turn g' at used n l
-      → ((profile : Profile) (h : History) → Traces profile h g → Traces profile (asked to s before n l after ∷ h) g') → Made g (asked to s before r.number r.len after) at used r
-  asked_made to {l} {s} {before} {after} q f = made_by g (λ n l. asked to s before n l after) g' at used n l r q refl refl f
-
-  pub lined_made : {l : ℕ} {before after : List ℕ} → r ≡ turn g' at used n l → ((profile : Profile) (h : History) → Traces profile h g → Traces profile (lined before n l after ∷ h) g')
-      → Made g (lined before r.number r.len after) at used r
-  lined_made {l} {before} {after} q f = made_by g (λ n l. lined before n l after) g' at used n l r q refl refl f
-
-  pub bench_set_made : {b : Bench} → r ≡ turn g' at used n 0 → ((profile : Profile) (h : History) → Traces profile h g → Traces profile (bench_set b n ∷ h) g') → Made g (bench_set b r.number) at used r
-  bench_set_made {b} q f = made_by g (λ n l. bench_set b n) g' at used n 0 r q refl refl f
-
-  pub opg_bench_set_made : {p : Pressure} → r ≡ turn g' at used n 0 → ((profile : Profile) (h : History) → Traces profile h g → Traces profile (opg_bench_set p n ∷ h) g')
-      → Made g (opg_bench_set p r.number) at used r
-  opg_bench_set_made {p} q f = made_by g (λ n l. opg_bench_set p n) g' at used n 0 r q refl refl f
-
 -- a part lent has as many bytes as its call says
 pub part_short : (memory : List ℕ) (used room : ℕ) → room < 65536 → length (take (used + room - used) (drop used memory)) < 65536
 part_short memory used room h = simp length-take (omega arith)
 
--- the call x that was read is k, with what holds of it
-pub read : (P : Call → Type 0) (x : Call) {r k : Call} → (r ≡ x) × P r → r ≡ k → (x ≡ k) × P k
-read P x e q = (sym e.0 ∙ q, subst P q e.1)
+-- the call that was read is k, with what holds of it
+pub read : (P : Option Call → Type 0) (x : Option Call) {r k : Call} → Some r ≡ x → P (Some r) → r ≡ k → (x ≡ Some k) × P (Some k)
+read P x e f q = (sym e ∙ ap Some q, subst (λ (c : Call). P (Some c)) q f)
 
 -- ---- the answers are those that the rules fix
 
@@ -109,19 +80,6 @@ module _ (script memory : List ℕ) (g : Gauges) (at used : ℕ) where
   abbrev standing : History → Standing
   standing h = record { history = h; at = at; used = used; memory = memory }
 
-  -- a call was made, and this stands after it
-  took_one : (e : Exchange) (at' used' : ℕ) (r : Turn) (memory' : List ℕ) → Made g e at' used' r → at' ≤ length script → used' ≤ length memory
-      → ((profile : Profile) (h : History) → Traces profile h g → advance profile script (standing h) ≡ record { history = e ∷ h; at = at'; used = used'; memory = memory' })
-      → One script memory g at used r memory'
-  took_one e at' used' r memory' m h k f =
-      inr (record {
-        exchange = e;
-        made = record { more_is = m.more_is; at_is = refl; used_is = refl; number_is = m.number_is; length_is = m.length_is; follows = m.follows };
-        advances = λ profile h t. rw (m.at_is, m.used_is) (f profile h t);
-        at_in = rw m.at_is h;
-        used_in = rw m.used_is k;
-      })
-
   -- a call that was lent a part of the memory, and left `after` in it
   record Fixes (profile : Profile) (room at' : ℕ) (after : List ℕ) (e : Exchange) (h : History) : Type 0 where
     answer : Answer
@@ -129,18 +87,24 @@ module _ (script memory : List ℕ) (g : Gauges) (at used : ℕ) where
     part-is : after ≡ over answer.reply (take room (drop used memory))
     fits : length answer.reply ≤ length (take room (drop used memory))
 
-  lent_one : (e : Exchange) (room at' : ℕ) (after : List ℕ) (r : Turn) → Made g e at' (used + room) r → at' ≤ length script → used + room ≤ length memory
-      → ((profile : Profile) (h : History) → Traces profile h g → Fixes profile room at' after e h) → One script memory g at used r (take used memory ++ (after ++ drop room (drop used memory)))
+  lent_one : (e : Exchange) (room at' : ℕ) (after : List ℕ) (r : Answered) → Made g e r → at' ≤ length script → used + room ≤ length memory
+      → ((profile : Profile) (h : History) → Traces profile h g → Fixes profile room at' after e h)
+      → One script memory g at used (Some (record { answered = r; at = at'; used = used + room })) (take used memory ++ (after ++ drop room (drop used memory)))
   lent_one e room at' after r m h k f =
-      took_one e at' (used + room) r _ m h k
-      (λ profile h t.
-      let x = f profile h t in
-      x.advanced ∙ ap (λ (l : List ℕ). record { history = e ∷ h; at = at'; used = used + room; memory = l }) (sym (rw x.part-is (put_back memory x.answer.reply used room k x.fits))))
+      record {
+        exchange = e;
+        made = m;
+        advances = λ profile h t.
+            let x = f profile h t in
+            x.advanced ∙ ap (λ (l : List ℕ). record { history = e ∷ h; at = at'; used = used + room; memory = l }) (sym (rw x.part-is (put_back memory x.answer.reply used room k x.fits)));
+        at_in = h;
+        used_in = k;
+      }
 
-  pub request_one : (to : To) (room len : ℕ) (after : List ℕ) (r : Turn) → at + 5 + len ≤ length script → call_at script at ≡ Request to room len
+  pub request_one : (to : To) (room len : ℕ) (after : List ℕ) (r : Answered) → at + 5 + len ≤ length script → call_at script at ≡ Some (Request to room len)
       → used + room ≤ length memory
-      → Made g (asked to (take (at + 5 + len - (at + 5)) (drop (at + 5) script)) (take (used + room - used) (drop used memory)) r.number r.len after) (at + 5 + len) (used + room) r
-      → One script memory g at used r (take used memory ++ (after ++ drop (used + room - used) (drop used memory)))
+      → Made g (asked to (take (at + 5 + len - (at + 5)) (drop (at + 5) script)) (take (used + room - used) (drop used memory)) r.number r.len after) r
+      → One script memory g at used (Some (record { answered = r; at = at + 5 + len; used = used + room })) (take used memory ++ (after ++ drop (used + room - used) (drop used memory)))
   unfolding made
   request_one to room len after r h e fits m =
       rw (add-sub_cancel_left used room)
@@ -149,7 +113,7 @@ module _ (script memory : List ℕ) (g : Gauges) (at used : ℕ) where
       let f = asked_fixed profile to (n.follows profile h t) in
       record {
         answer = answer_to profile to h (length before) request;
-        advanced = advances profile script (standing h) (Request to room len) e fits ∙ sym (rw (f.0.number, f.0.len, f.0.memory));
+        advanced = advances profile script (standing h) (Some (Request to room len)) e fits ∙ sym (rw (f.0.number, f.0.len, f.0.memory));
         part-is = f.0.memory;
         fits = rw f.0.len at f.1;
       }))
@@ -160,12 +124,12 @@ module _ (script memory : List ℕ) (g : Gauges) (at used : ℕ) where
       request : List ℕ
       request = take len (drop (at + 5) script)
 
-      n : Made g (asked to request before r.number r.len after) (at + 5 + len) (used + room) r
+      n : Made g (asked to request before r.number r.len after) r
       n = rw (add-sub_cancel_left (at + 5) len, add-sub_cancel_left used room) at m
 
-  pub line_one : (room : ℕ) (after : List ℕ) (r : Turn) → at + 3 ≤ length script → call_at script at ≡ Line room → used + room ≤ length memory
-      → Made g (lined (take (used + room - used) (drop used memory)) r.number r.len after) (at + 3) (used + room) r
-      → One script memory g at used r (take used memory ++ (after ++ drop (used + room - used) (drop used memory)))
+  pub line_one : (room : ℕ) (after : List ℕ) (r : Answered) → at + 3 ≤ length script → call_at script at ≡ Some (Line room) → used + room ≤ length memory
+      → Made g (lined (take (used + room - used) (drop used memory)) r.number r.len after) r
+      → One script memory g at used (Some (record { answered = r; at = at + 3; used = used + room })) (take used memory ++ (after ++ drop (used + room - used) (drop used memory)))
   unfolding made
   line_one room after r h e fits m =
       rw (add-sub_cancel_left used room)
@@ -174,7 +138,7 @@ module _ (script memory : List ℕ) (g : Gauges) (at used : ℕ) where
       let f = lined_fixed profile (n.follows profile h t) in
       record {
         answer = line_for profile h (length before);
-        advanced = advances profile script (standing h) (Line room) e fits ∙ sym (rw (f.0.number, f.0.len, f.0.memory));
+        advanced = advances profile script (standing h) (Some (Line room)) e fits ∙ sym (rw (f.0.number, f.0.len, f.0.memory));
         part-is = f.0.memory;
         fits = rw f.0.len at f.1;
       }))
@@ -182,26 +146,37 @@ module _ (script memory : List ℕ) (g : Gauges) (at used : ℕ) where
       before : List ℕ
       before = take room (drop used memory)
 
-      n : Made g (lined before r.number r.len after) (at + 3) (used + room) r
+      n : Made g (lined before r.number r.len after) r
       n = rw (add-sub_cancel_left used room) at m
 
-  pub setting_one : (b : Bench) (r : Turn) → at + 10 ≤ length script → call_at script at ≡ SetBench b → used ≤ length memory
-      → Made g (bench_set b r.number) (at + 10) used r → One script memory g at used r memory
+  pub setting_one : (b : Bench) (r : Answered) → at + 10 ≤ length script → call_at script at ≡ Some (SetBench b) → used ≤ length memory
+      → Made g (bench_set b r.number) r → One script memory g at used (Some (record { answered = r; at = at + 10; used = used })) memory
   unfolding made
   setting_one b r h e fits m =
-      took_one (bench_set b r.number) (at + 10) used r memory m h fits (λ profile h t. advances profile script (standing h) (SetBench b) e (omega arith) ∙ sym (rw (bench_set_fixed profile (m.follows profile h t))))
+      record {
+        exchange = bench_set b r.number;
+        made = m;
+        advances = λ profile h t. advances profile script (standing h) (Some (SetBench b)) e (omega arith) ∙ sym (rw (bench_set_fixed profile (m.follows profile h t)));
+        at_in = h;
+        used_in = fits;
+      }
 
-  pub opg_bench_one : (p : Pressure) (r : Turn) → at + 6 ≤ length script → call_at script at ≡ SetOpgBench p → used ≤ length memory
-      → Made g (opg_bench_set p r.number) (at + 6) used r → One script memory g at used r memory
+  pub opg_bench_one : (p : Pressure) (r : Answered) → at + 6 ≤ length script → call_at script at ≡ Some (SetOpgBench p) → used ≤ length memory
+      → Made g (opg_bench_set p r.number) r → One script memory g at used (Some (record { answered = r; at = at + 6; used = used })) memory
   unfolding made
   opg_bench_one p r h e fits m =
-      took_one (opg_bench_set p r.number) (at + 6) used r memory m h fits (λ profile h t. advances profile script (standing h) (SetOpgBench p) e (omega arith) ∙ sym (rw (opg_bench_set_fixed profile (m.follows profile h t))))
+      record {
+        exchange = opg_bench_set p r.number;
+        made = m;
+        advances = λ profile h t. advances profile script (standing h) (Some (SetOpgBench p)) e (omega arith) ∙ sym (rw (opg_bench_set_fixed profile (m.follows profile h t)));
+        at_in = h;
+        used_in = fits;
+      }
 
   -- no call was made: too little memory is left for it, or there is none
-  pub no_room : (k : Call) (r : Turn) → call_at script at ≡ k → used ≤ length memory → length memory - used < room_of k → r.more ≡ false
-      → One script memory g at used r memory
-  no_room k r e h l more = inl (record { none_made = more; memory_is = refl; stands = λ profile h. stands profile script (standing h) k e (omega arith) })
+  pub no_room : (k : Option Call) → call_at script at ≡ k → used ≤ length memory → length memory - used < room_of k → One script memory g at used None memory
+  no_room k e h l = record { memory_is = refl; stands = λ profile h. stands profile script (standing h) k e (omega arith) }
 
-  pub none_left : (r : Turn) → call_at script at ≡ End → used ≤ length memory → r.more ≡ false → One script memory g at used r memory
+  pub none_left : call_at script at ≡ None → used ≤ length memory → One script memory g at used None memory
   unfolding made
-  none_left r e fits more = inl (record { none_made = more; memory_is = refl; stands = λ profile h. advances profile script (standing h) End e (omega arith) })
+  none_left e fits = record { memory_is = refl; stands = λ profile h. advances profile script (standing h) None e (omega arith) }

@@ -1,6 +1,6 @@
 -- What playing a script promises: the calls that were made are the script's, each answered as the rules fix it, and the claim on sequences holds
 -- of them, for both gauges.
-use Rattle.std.specs.Prelude.{◌≡◌, List, [], ◌∷◌, ◌++◌, ℕ, zero, suc, ◌+◌, min, ltb, length, take, drop}
+use Rattle.std.specs.Prelude.{◌≡◌, List, [], ◌∷◌, ◌++◌, ℕ, zero, suc, ◌+◌, min, ltb, length, take, drop, None, Option, Some}
 use Rattle.std.proofs.lemmas.List.Edits.{sets}
 use Rattle.buffer.specs.First.{◌⇒◌, first}
 use Rattle.buffer.specs.Answer.{Answer, over}
@@ -21,7 +21,7 @@ use Rattle.script.specs.Script.{call_at, room_of}
 use Rattle.script.specs.declared.To.{To}
 use Rattle.script.specs.declared.To.TheVariants.{Text, Opg}
 use Rattle.script.specs.declared.Call.{Call}
-use Rattle.script.specs.declared.Call.TheVariants.{Request, Line, SetBench, SetOpgBench, End}
+use Rattle.script.specs.declared.Call.TheVariants.{Request, Line, SetBench, SetOpgBench}
 use Rattle.player.specs.declared.Gauges.{Gauges}
 
 -- ---- calls
@@ -107,17 +107,17 @@ abbrev pub answered : Standing → ℕ → Answer → Exchange → ℕ → Stand
 answered p room a e at = record { history = e ∷ p.history; at = at; used = p.used + room; memory = sets p.memory p.used a.reply }
 
 -- the call that stands next is made, and answered by the rules
-unfoldable pub made : Profile → List ℕ → Standing → Call → Standing
-made profile script p (Request to room len) =
+unfoldable pub made : Profile → List ℕ → Standing → Option Call → Standing
+made profile script p (Some (Request to room len)) =
     let s = take len (drop (p.at + 5) script) in
     let a = answer_to profile to p.history (length (lent p room)) s in
     answered p room a (asked to s (lent p room) a.number (length a.reply) (over a.reply (lent p room))) (p.at + 5 + len)
-made profile script p (Line room) =
+made profile script p (Some (Line room)) =
     let a = line_for profile p.history (length (lent p room)) in
     answered p room a (lined (lent p room) a.number (length a.reply) (over a.reply (lent p room))) (p.at + 3)
-made profile script p (SetBench b) = record { history = bench_set b (bench_number_for profile p.history b) ∷ p.history; at = p.at + 10; used = p.used; memory = p.memory }
-made profile script p (SetOpgBench q) = record { history = opg_bench_set q (opg_bench_number p.history q) ∷ p.history; at = p.at + 6; used = p.used; memory = p.memory }
-made profile script p End = p
+made profile script p (Some (SetBench b)) = record { history = bench_set b (bench_number_for profile p.history b) ∷ p.history; at = p.at + 10; used = p.used; memory = p.memory }
+made profile script p (Some (SetOpgBench q)) = record { history = opg_bench_set q (opg_bench_number p.history q) ∷ p.history; at = p.at + 6; used = p.used; memory = p.memory }
+made profile script p None = p
 
 -- one call more, unless no whole call stands next, or the memory left is too small for it
 unfoldable pub advance : Profile → List ℕ → Standing → Standing

@@ -1,9 +1,13 @@
 #![tactic(auto)]
 // Plays a sequence of calls, written as bytes (a script), on one text gauge and one OPG from factory settings on, and keeps each answer.
-ghost use Rattle.std.specs.Prelude.{◌≡◌, true, false, [], ◌<◌, ◌≤◌, length};
-ghost use Rattle.script.specs.declared.To.TheVariants.{Text, Opg};
+ghost use Rattle.std.specs.Prelude.{◌≡◌, [], ◌<◌, ◌≤◌, length};
 ghost use Rattle.player.specs.Played.{asked, lined, bench_set, opg_bench_set, Ran};
 ghost use Rattle.player.specs.Inner.{Traces, Made, One};
+
+use opg_gauge::Pressure;
+use readings::Bench;
+use script::{Call, To};
+use sources::Profile;
 
 // The two gauges.
 #[derive(Clone, Copy)]
@@ -12,16 +16,20 @@ pub struct Gauges {
     pub opg: opg_gauge::Gauge,
 }
 
-// After one call: the gauges, where the next call and the memory not yet lent begin, and the answer's number and length. Or no call was
-// made, and more is false.
+// The gauges after a call, and the answer's number and length, as C takes them.
 #[derive(Clone, Copy)]
-struct Turn {
+struct Answered {
     pub gauges: Gauges,
-    pub at: usize,
-    pub used: usize,
     pub number: u16,
     pub len: u16,
-    pub more: bool,
+}
+
+// A call that was made, and where the next call and the memory not yet lent begin.
+#[derive(Clone, Copy)]
+struct Turn {
+    pub answered: Answered,
+    pub at: usize,
+    pub used: usize,
 }
 
 // The gauges that the calls left, and how many calls there were.
@@ -33,137 +41,115 @@ pub struct Played {
 
 // ---- one call
 
-fn stop(g: Gauges) -> Turn
-    ensures { result.more ≡ false }
-{
-    Turn {
-        gauges: g,
-        at: 0,
-        used: 0,
-        number: 0,
-        len: 0,
-        more: false,
-    }
-}
-
-// A call was made. The next call begins at `at`, the memory not yet lent at `used`.
-fn made(g: Gauges, at: usize, used: usize, number: u16, len: u16) -> Turn
-    ensures { result ≡ record { gauges = g; at = at; used = used; number = number; len = len; more = true } }
-{
-    Turn {
-        gauges: g,
-        at,
-        used,
-        number,
-        len,
-        more: true,
-    }
-}
-
-fn ask_text(g: Gauges, request: &[u8], part: &mut [u8], at: usize, used: usize) -> Turn
+// A request.
+fn ask(g: Gauges, to: To, request: &[u8], part: &mut [u8]) -> Answered
     requires { length part.old < 65536 }
-    ensures { Made g (asked Text request.now part.old result.number result.len part.new) at used result }
-{
-    let old = g.text;
-    let opg = g.opg;
-    let a = text_gauge::answer(old, request, part);
-    let next = a.gauge;
-    let w = a.written;
-    made(Gauges { text: next, opg }, at, used, w.number, w.len as u16)
-}
-
-fn ask_opg(g: Gauges, request: &[u8], part: &mut [u8], at: usize, used: usize) -> Turn
-    requires { length part.old < 65536 }
-    ensures { Made g (asked Opg request.now part.old result.number result.len part.new) at used result }
-{
-    let old = g.opg;
-    let text = g.text;
-    let a = opg_answer::answer(old, request, part);
-    let next = a.gauge;
-    let w = a.written;
-    made(Gauges { text, opg: next }, at, used, w.number, w.len as u16)
-}
-
-fn ask(g: Gauges, to: script::To, request: &[u8], part: &mut [u8], at: usize, used: usize) -> Turn
-    requires { length part.old < 65536 }
-    ensures { Made g (asked to request.now part.old result.number result.len part.new) at used result }
+    ensures { Made g (asked to request.now part.old result.number result.len part.new) result }
 {
     match to {
-        script::To::Text => ask_text(g, request, part, at, used),
-        script::To::Opg => ask_opg(g, request, part, at, used),
+        To::Text => {
+            let a = text_gauge::answer(g.text, request, part);
+            Answered {
+                gauges: Gauges { text: a.gauge, ..g },
+                number: a.written.number,
+                len: a.written.len as u16,
+            }
+        }
+        To::Opg => {
+            let a = opg_answer::answer(g.opg, request, part);
+            Answered {
+                gauges: Gauges { opg: a.gauge, ..g },
+                number: a.written.number,
+                len: a.written.len as u16,
+            }
+        }
     }
 }
 
 // The stream line.
-fn show(g: Gauges, part: &mut [u8], at: usize, used: usize) -> Turn
+fn show(g: Gauges, part: &mut [u8]) -> Answered
     requires { length part.old < 65536 }
-    ensures { Made g (lined part.old result.number result.len part.new) at used result }
+    ensures { Made g (lined part.old result.number result.len part.new) result }
 {
-    let text = g.text;
-    let w = text_gauge::stream_line(text, part);
-    made(g, at, used, w.number, w.len as u16)
+    let w = text_gauge::stream_line(g.text, part);
+    Answered {
+        gauges: g,
+        number: w.number,
+        len: w.len as u16,
+    }
 }
 
 // A bench setting of the text gauge, which has no reply.
-fn set_bench(g: Gauges, b: readings::Bench, at: usize, used: usize) -> Turn
-    ensures { Made g (bench_set b result.number) at used result }
+fn set_bench(g: Gauges, b: Bench) -> Answered
+    ensures { Made g (bench_set b result.number) result }
 {
-    let old = g.text;
-    let opg = g.opg;
-    let a = text_gauge::set_bench(old, b);
-    let after = a.gauge;
-    made(Gauges { text: after, opg }, at, used, a.number, 0)
+    let a = text_gauge::set_bench(g.text, b);
+    Answered {
+        gauges: Gauges { text: a.gauge, ..g },
+        number: a.number,
+        len: 0,
+    }
 }
 
-// A bench setting of the OPG, which has no reply.
-fn set_opg_bench(g: Gauges, p: opg_gauge::Pressure, at: usize, used: usize) -> Turn
-    ensures { Made g (opg_bench_set p result.number) at used result }
+// A bench setting of the OPG, which has no reply. (The two gauges' benches take different settings: one function would take the call as a closure, and
+// be longer.)
+fn set_opg_bench(g: Gauges, p: Pressure) -> Answered
+    ensures { Made g (opg_bench_set p result.number) result }
 {
-    let old = g.opg;
-    let text = g.text;
-    let a = old.bench(p);
-    let after = a.gauge;
-    made(Gauges { text, opg: after }, at, used, a.number, 0)
+    let a = g.opg.bench(p);
+    Answered {
+        gauges: Gauges { opg: a.gauge, ..g },
+        number: a.number,
+        len: 0,
+    }
 }
 
-// The call at place `at` of the script, with the memory from `used` on.
-fn one(g: Gauges, script: &[u8], at: usize, memory: &mut [u8], used: usize) -> Turn
+// The call at place `at` of the script, with the memory from `used` on, if a whole call stands there and there is memory for it.
+fn one(g: Gauges, script: &[u8], at: usize, memory: &mut [u8], used: usize) -> Option<Turn>
     requires { (at ≤ length script.now) × (used ≤ length memory.old) }
     ensures { One script.now memory.old g at used result memory.new }
 {
-    match script::call_at(script, at) {
-        script::Call::Request(to, room, len) => {
+    match script::call_at(script, at)? {
+        Call::Request(to, room, len) => {
             if memory.len() - used < room {
-                return stop(g);
+                return None;
             }
             let start = at + 5;
             let next = start + len;
             let end = used + room;
-            ask(
-                g,
-                to,
-                &script[start..next],
-                &mut memory[used..end],
-                next,
-                end,
-            )
+            Some(Turn {
+                answered: ask(g, to, &script[start..next], &mut memory[used..end]),
+                at: next,
+                used: end,
+            })
         }
-        script::Call::Line(room) => {
+        Call::Line(room) => {
             if memory.len() - used < room {
-                return stop(g);
+                return None;
             }
             let end = used + room;
-            show(g, &mut memory[used..end], at + 3, end)
+            Some(Turn {
+                answered: show(g, &mut memory[used..end]),
+                at: at + 3,
+                used: end,
+            })
         }
-        script::Call::SetBench(b) => set_bench(g, b, at + 10, used),
-        script::Call::SetOpgBench(p) => set_opg_bench(g, p, at + 6, used),
-        script::Call::End => stop(g),
+        Call::SetBench(b) => Some(Turn {
+            answered: set_bench(g, b),
+            at: at + 10,
+            used,
+        }),
+        Call::SetOpgBench(p) => Some(Turn {
+            answered: set_opg_bench(g, p),
+            at: at + 6,
+            used,
+        }),
     }
 }
 
 // ---- the play
 
-fn at_start(profile: sources::Profile) -> Gauges
+fn at_start(profile: Profile) -> Gauges
     ensures { Traces profile [] result × (result.text.profile ≡ profile) }
 {
     Gauges {
@@ -174,9 +160,9 @@ fn at_start(profile: sources::Profile) -> Gauges
 
 // Plays the calls of the script on a text gauge of this profile and an OPG at factory settings. Each call gets the gauge that the last one left, and
 // the next part of the memory. Each answer's number and its reply's length are kept. The play ends where no whole call is left, or too little memory
-// for it, or no place for its answer.
+// for it, or no place for its answer. (`numbers` and `lens` are two arrays, as C lends them.)
 pub fn play(
-    profile: sources::Profile,
+    profile: Profile,
     script: &[u8],
     memory: &mut [u8],
     numbers: &mut [u16],
@@ -184,34 +170,22 @@ pub fn play(
 ) -> Played
     ensures { Ran profile script.now memory.old numbers.old lens.old result.gauges result.calls memory.new numbers.new lens.new }
 {
-    let mut g = at_start(profile);
+    let mut gauges = at_start(profile);
     let mut at: usize = 0;
     let mut used: usize = 0;
-    let mut i: usize = 0;
-    while i < numbers.len() {
-        if lens.len() <= i {
-            return Played {
-                gauges: g,
-                calls: i,
-            };
-        }
-        let t = one(g, script, at, memory, used);
-        if !t.more {
-            return Played {
-                gauges: g,
-                calls: i,
-            };
-        }
-        numbers[i] = t.number;
-        lens[i] = t.len;
-        let h = t.gauges;
-        g = h;
-        at = t.at;
-        used = t.used;
-        i += 1;
+    let places = numbers.len().min(lens.len());
+    for i in 0..places {
+        let Some(turn) = one(gauges, script, at, memory, used) else {
+            return Played { gauges, calls: i };
+        };
+        numbers[i] = turn.answered.number;
+        lens[i] = turn.answered.len;
+        gauges = turn.answered.gauges;
+        at = turn.at;
+        used = turn.used;
     }
     Played {
-        gauges: g,
-        calls: i,
+        gauges,
+        calls: places,
     }
 }

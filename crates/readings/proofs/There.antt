@@ -1,18 +1,16 @@
 -- A bench setting is for the source that it names, and the line shows each source's own reading: the proofs.
 use mathlib.Core.Path.{◌≡◌, refl, ap}
 use mathlib.Core.Bool.{Bool}
-use mathlib.Core.Option.{Option, none, some}
+use mathlib.Core.Option as maybe
+use mathlib.Core.Option.{none, some}
 use Prim.Native.Nat.{ℕ}
 use native.Mathlib.Omega.{arith}
 use borrow.Author.Tests.{eqb-true}
 use lib.Dec.{eqb}
+use Rattle.std.specs.Prelude.{Err, None, Ok, Option, Result, Some}
 use Rattle.buffer.specs.First.{pick}
 use Rattle.buffer.proofs.Rules.{each}
 use Rattle.decimal.specs.Number.{hundredths_of}
-use Rattle.decimal.specs.declared.Parsed.{Parsed}
-use Rattle.decimal.specs.declared.Parsed.TheVariants.{Value, Syntax, Range}
-use Rattle.decimal.specs.declared.Hundredths.{Hundredths}
-use Rattle.decimal.specs.declared.Hundredths.TheVariants.{Whole, Other}
 use Rattle.readings.specs.Bench.{pressure_at, temperature_at, pressure_of, degrees_of, temperature_of, bench_of}
 use Rattle.readings.specs.Place.{Source0, Source1, Source2, Source6, Source7, SourceT2, SourceT6, Status, code_of, place_of, reading_at}
 use Rattle.readings.specs.Reading.{value_text}
@@ -23,13 +21,14 @@ use Rattle.readings.specs.declared.Temperature.{Temperature}
 use Rattle.readings.specs.declared.Bench.{Bench}
 use Rattle.readings.specs.declared.Bench.TheVariants.{Reads, UnderRange, OverRange, Faulty}
 use Rattle.readings.specs.declared.Bench.TheVariants as bench
-use Rattle.readings.specs.declared.Benched.{Benched}
-use Rattle.readings.specs.declared.Benched.TheVariants.{Accepted, Refused}
+use Rattle.decimal.specs.declared.Number.{Number}
+use Rattle.decimal.specs.declared.NumberError.{NumberError}
+use Rattle.readings.specs.declared.Reading.{Reading}
 
 -- what is accepted stands at the place of this code
-abbrev There : Option ℕ → Benched → Type 0
-There code (Accepted x) = code ≡ code_of (place_of x)
-There code Refused = Unit {0}
+abbrev There : maybe.Option ℕ → Option Reading → Type 0
+There code (Some x) = code ≡ code_of (place_of x)
+There code None = Unit {0}
 
 pressure_there : (code : ℕ) (p : Pressure) → There (some code) (pressure_at code p)
 unfolding pressure_at code_of place_of
@@ -46,22 +45,22 @@ temperature_there code t =
     each (There (some code)) (eqb code 8) _ _ (λ e. ap some (eqb-true code 8 e))
     (λ _. each (There (some code)) (eqb code 9) _ _ (λ e. ap some (eqb-true code 9 e)) (λ _. tt))
 
-number_there : (code : ℕ) (p : Parsed) → There (some code) (pressure_of code p)
+number_there : (code : ℕ) (p : Result Number NumberError) → There (some code) (pressure_of code p)
 unfolding pressure_of
-number_there code (Value n) = each (There (some code)) _ _ _ (λ _. tt) (λ _. pressure_there code _)
-number_there code Syntax = tt
-number_there code Range = tt
+number_there code (Ok n) = each (There (some code)) _ _ _ (λ _. tt) (λ _. pressure_there code _)
+number_there code (Err NumberError.Syntax) = tt
+number_there code (Err NumberError.Range) = tt
 
-degrees_there : (code : ℕ) (negative : Bool) (h : Hundredths) → There (some code) (degrees_of code negative h)
+degrees_there : (code : ℕ) (negative : Bool) (h : Option ℕ) → There (some code) (degrees_of code negative h)
 unfolding degrees_of
-degrees_there code negative (Whole h) = each (There (some code)) _ _ _ (λ _. tt) (λ _. temperature_there code _)
-degrees_there code negative Other = tt
+degrees_there code negative (Some h) = each (There (some code)) _ _ _ (λ _. tt) (λ _. temperature_there code _)
+degrees_there code negative None = tt
 
-celsius_there : (code : ℕ) (p : Parsed) → There (some code) (temperature_of code p)
+celsius_there : (code : ℕ) (p : Result Number NumberError) → There (some code) (temperature_of code p)
 unfolding temperature_of
-celsius_there code (Value n) = degrees_there code n.negative (hundredths_of n)
-celsius_there code Syntax = tt
-celsius_there code Range = tt
+celsius_there code (Ok n) = degrees_there code n.negative (hundredths_of n)
+celsius_there code (Err NumberError.Syntax) = tt
+celsius_there code (Err NumberError.Range) = tt
 
 there : (b : Bench) → There (names b) (bench_of b)
 unfolding bench_of names code_of place_of

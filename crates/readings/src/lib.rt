@@ -6,7 +6,7 @@ ghost use Rattle.buffer.specs.Text.{text_of};
 ghost use Rattle.error_texts.specs.Texts.{error_bytes};
 ghost use Rattle.error_texts.specs.declared.ErrorText.{ErrorText};
 ghost use Rattle.readings.specs.Reading.{start, put_reading, pressure_text, temperature_text, value_text, faulty_pressure, faulty_temperature};
-ghost use Rattle.readings.specs.Bench.{takes, pressure_at, temperature_at, pressure_of, outside_degrees, degrees_of, temperature_of, bench_of};
+ghost use Rattle.readings.specs.Bench.{takes, pressure_at, temperature_at, pressure_of, outside_degrees, temperature_of, bench_of};
 ghost use Rattle.readings.specs.Measure.{six_of, rounded_text, measure_text};
 
 // A pressure: a number of mbar, under or over range, or faulty.
@@ -20,16 +20,27 @@ pub enum Pressure {
 
 impl Pressure {
     // The texts of a pressure that is under or over range.
-    pub const UNDER_RANGE: [u8; 2] = [b'U', b'R'];
+    pub const UNDER_RANGE: [u8; 2] = *b"UR";
 
-    pub const OVER_RANGE: [u8; 2] = [b'O', b'R'];
+    pub const OVER_RANGE: [u8; 2] = *b"OR";
+
+    const ONE_MBAR: Pressure = Pressure::Measured(decimal::Number {
+        negative: false,
+        mantissa: 100000,
+        place: 9,
+    });
 }
 
-// A temperature: whether it is below zero, and its size in hundredths of a degree; or faulty.
+// A temperature: whether it is below zero, and its size in hundredths of a degree; or faulty. (No Option: a fault is a value that is sent, and `None`
+// would not say it.)
 #[derive(Clone, Copy)]
 pub enum Temperature {
     Degrees(bool, u16),
     Faulty,
+}
+
+impl Temperature {
+    const TWENTY_DEGREES: Temperature = Temperature::Degrees(false, 2000);
 }
 
 // A reading by its source, or FS: one case for each.
@@ -73,13 +84,6 @@ pub enum Bench {
     Status(u8),
 }
 
-// A bench setting accepted as a reading, or refused (15).
-#[derive(Clone, Copy)]
-pub enum Benched {
-    Accepted(Reading),
-    Refused,
-}
-
 impl Readings {
     // FS
     pub const STATUS_MAX: u8 = 3;
@@ -96,33 +100,13 @@ impl Readings {
 
     // "At the start each pressure is 1 mbar, each temperature 20.00, FS 0."
     pub const START: Readings = Readings {
-        p0: Pressure::Measured(decimal::Number {
-            negative: false,
-            mantissa: 100000,
-            place: 9,
-        }),
-        p1: Pressure::Measured(decimal::Number {
-            negative: false,
-            mantissa: 100000,
-            place: 9,
-        }),
-        p2: Pressure::Measured(decimal::Number {
-            negative: false,
-            mantissa: 100000,
-            place: 9,
-        }),
-        p6: Pressure::Measured(decimal::Number {
-            negative: false,
-            mantissa: 100000,
-            place: 9,
-        }),
-        p7: Pressure::Measured(decimal::Number {
-            negative: false,
-            mantissa: 100000,
-            place: 9,
-        }),
-        t2: Temperature::Degrees(false, 2000),
-        t6: Temperature::Degrees(false, 2000),
+        p0: Pressure::ONE_MBAR,
+        p1: Pressure::ONE_MBAR,
+        p2: Pressure::ONE_MBAR,
+        p6: Pressure::ONE_MBAR,
+        p7: Pressure::ONE_MBAR,
+        t2: Temperature::TWENTY_DEGREES,
+        t6: Temperature::TWENTY_DEGREES,
         status: 0,
     };
 
@@ -130,10 +114,12 @@ impl Readings {
     pub fn is_outside(negative: bool, size: u32) -> bool
         ensures { result ≡ outside_degrees negative size }
     {
-        if negative {
-            return Readings::COLDEST < size;
-        }
-        Readings::HOTTEST < size
+        let most = if negative {
+            Readings::COLDEST
+        } else {
+            Readings::HOTTEST
+        };
+        most < size
     }
 
     // The readings at the start.
@@ -143,128 +129,64 @@ impl Readings {
         Readings::START
     }
 
-    // The readings with these pressures.
-    fn with_pressures(
-        self,
-        p0: Pressure,
-        p1: Pressure,
-        p2: Pressure,
-        p6: Pressure,
-        p7: Pressure,
-    ) -> Readings
-        ensures { result ≡ record { p0 = p0; p1 = p1; p2 = p2; p6 = p6; p7 = p7; t2 = self.t2; t6 = self.t6; status = self.status } }
-    {
-        let t2 = self.t2;
-        let t6 = self.t6;
-        let status = self.status;
-        Readings {
-            p0,
-            p1,
-            p2,
-            p6,
-            p7,
-            t2,
-            t6,
-            status,
-        }
-    }
-
-    // The readings with these temperatures and this FS.
-    fn with_others(self, t2: Temperature, t6: Temperature, status: u8) -> Readings
-        ensures { result ≡ record { p0 = self.p0; p1 = self.p1; p2 = self.p2; p6 = self.p6; p7 = self.p7; t2 = t2; t6 = t6; status = status } }
-    {
-        let p0 = self.p0;
-        let p1 = self.p1;
-        let p2 = self.p2;
-        let p6 = self.p6;
-        let p7 = self.p7;
-        Readings {
-            p0,
-            p1,
-            p2,
-            p6,
-            p7,
-            t2,
-            t6,
-            status,
-        }
-    }
-
     // The readings with one of them set, and no other changed.
+    #[tactic(auto, unfolding(crate::specs::Reading::put_reading))]
     pub fn with(self, reading: Reading) -> Readings
         ensures { result ≡ put_reading self reading }
     {
-        let p0 = self.p0;
-        let p1 = self.p1;
-        let p2 = self.p2;
-        let p6 = self.p6;
-        let p7 = self.p7;
-        let t2 = self.t2;
-        let t6 = self.t6;
-        let status = self.status;
         match reading {
-            Reading::P0(v) => self.with_pressures(v, p1, p2, p6, p7),
-            Reading::P1(v) => self.with_pressures(p0, v, p2, p6, p7),
-            Reading::P2(v) => self.with_pressures(p0, p1, v, p6, p7),
-            Reading::P6(v) => self.with_pressures(p0, p1, p2, v, p7),
-            Reading::P7(v) => self.with_pressures(p0, p1, p2, p6, v),
-            Reading::T2(v) => self.with_others(v, t6, status),
-            Reading::T6(v) => self.with_others(t2, v, status),
-            Reading::FS(v) => self.with_others(t2, t6, v),
+            Reading::P0(p0) => Readings { p0, ..self },
+            Reading::P1(p1) => Readings { p1, ..self },
+            Reading::P2(p2) => Readings { p2, ..self },
+            Reading::P6(p6) => Readings { p6, ..self },
+            Reading::P7(p7) => Readings { p7, ..self },
+            Reading::T2(t2) => Readings { t2, ..self },
+            Reading::T6(t6) => Readings { t6, ..self },
+            Reading::FS(status) => Readings { status, ..self },
         }
     }
 
     // The value that the stream line shows for a source, by its code.
+    #[tactic(auto, unfolding(crate::specs::Reading::value_text, buffer::specs::First::pick))]
     pub fn text(self, code: u8) -> buffer::Text
         ensures { text_of result ≡ value_text code self }
     {
-        let p0 = self.p0;
-        let p1 = self.p1;
-        let p2 = self.p2;
-        let p6 = self.p6;
-        let p7 = self.p7;
-        let t2 = self.t2;
-        let t6 = self.t6;
         match code {
-            0 => pressure_text(p0),
-            1 => pressure_text(p1),
-            2 => pressure_text(p2),
-            6 => pressure_text(p6),
-            7 => pressure_text(p7),
-            8 => temperature_text(t2),
-            9 => temperature_text(t6),
+            0 => pressure_text(self.p0),
+            1 => pressure_text(self.p1),
+            2 => pressure_text(self.p2),
+            6 => pressure_text(self.p6),
+            7 => pressure_text(self.p7),
+            8 => temperature_text(self.t2),
+            9 => temperature_text(self.t6),
             _ => error_text(),
         }
     }
 }
 
 // `ERROR1`.
+#[tactic(auto, unfolding(buffer::specs::Text::text_of, buffer::specs::Text::cut, error_texts::specs::Texts::error_bytes))]
 fn error_text() -> buffer::Text
     ensures { text_of result ≡ error_bytes ErrorText.Error1 }
 {
-    let text = error_texts::error_bytes(error_texts::ErrorText::Error1);
-    buffer::Text::EMPTY.add(&text)
+    buffer::Text::EMPTY.add(&error_texts::error_bytes(error_texts::ErrorText::Error1))
 }
 
 // A number in the written form, `UR`, `OR` or `ERROR1`.
+#[tactic(auto, unfolding(crate::specs::Reading::pressure_text, buffer::specs::Text::text_of, buffer::specs::Text::cut))]
 pub fn pressure_text(p: Pressure) -> buffer::Text
     ensures { text_of result ≡ pressure_text p }
 {
     match p {
         Pressure::Measured(n) => decimal_text::written(n),
-        Pressure::UnderRange => {
-            let t = Pressure::UNDER_RANGE;
-            buffer::Text::EMPTY.add(&t)
-        }
-        Pressure::OverRange => {
-            let t = Pressure::OVER_RANGE;
-            buffer::Text::EMPTY.add(&t)
-        }
+        Pressure::UnderRange => buffer::Text::EMPTY.add(&Pressure::UNDER_RANGE),
+        Pressure::OverRange => buffer::Text::EMPTY.add(&Pressure::OVER_RANGE),
         Pressure::Faulty => error_text(),
     }
 }
 
 // Degrees with two decimals, or `ERROR1`.
+#[tactic(auto, unfolding(crate::specs::Reading::temperature_text))]
 pub fn temperature_text(t: Temperature) -> buffer::Text
     ensures { text_of result ≡ temperature_text t }
 {
@@ -276,44 +198,41 @@ pub fn temperature_text(t: Temperature) -> buffer::Text
     }
 }
 
+// Whether a reading is faulty. (A trait over pressures and temperatures would be longer than these two, and than the two that place them below.)
+#[tactic(auto, unfolding(crate::specs::Reading::faulty_pressure))]
 pub fn is_faulty_pressure(p: Pressure) -> bool
     ensures { result ≡ faulty_pressure p }
 {
-    match p {
-        Pressure::Measured(_) => false,
-        Pressure::UnderRange => false,
-        Pressure::OverRange => false,
-        Pressure::Faulty => true,
-    }
+    matches!(p, Pressure::Faulty)
 }
 
+#[tactic(auto, unfolding(crate::specs::Reading::faulty_temperature))]
 pub fn is_faulty_temperature(t: Temperature) -> bool
     ensures { result ≡ faulty_temperature t }
 {
-    match t {
-        Temperature::Degrees(_, _) => false,
-        Temperature::Faulty => true,
-    }
+    matches!(t, Temperature::Faulty)
 }
 
 // ---- V1
 
 // Six digits: four of a mantissa, and two of an exponent.
+#[tactic(auto, unfolding(crate::specs::Measure::six_of, buffer::specs::Text::text_of, buffer::specs::Text::cut))]
 fn six_of(mantissa: u64, exponent: u16) -> buffer::Text
     ensures { text_of result ≡ six_of mantissa exponent }
 {
     let digits = [
-        (mantissa / 1000 % 10) as u8 + 48,
-        (mantissa / 100 % 10) as u8 + 48,
-        (mantissa / 10 % 10) as u8 + 48,
-        (mantissa % 10) as u8 + 48,
-        (exponent / 10 % 10) as u8 + 48,
-        (exponent % 10) as u8 + 48,
+        (mantissa / 1000 % 10) as u8 + b'0',
+        (mantissa / 100 % 10) as u8 + b'0',
+        (mantissa / 10 % 10) as u8 + b'0',
+        (mantissa % 10) as u8 + b'0',
+        (exponent / 10 % 10) as u8 + b'0',
+        (exponent % 10) as u8 + b'0',
     ];
     buffer::Text::EMPTY.add(&digits)
 }
 
 // A number's four digits, rounded half up, and its exponent plus 20.
+#[tactic(auto, unfolding(crate::specs::Measure::rounded_text, buffer::specs::First::pick))]
 fn rounded_text(n: decimal::Number) -> buffer::Text
     ensures { text_of result ≡ rounded_text n }
 {
@@ -326,6 +245,7 @@ fn rounded_text(n: decimal::Number) -> buffer::Text
 }
 
 // The data that V1's `M` sends for a pressure.
+#[tactic(auto, unfolding(crate::specs::Measure::measure_text, buffer::specs::Text::text_of, buffer::specs::Text::cut))]
 pub fn measure_text(p: Pressure) -> buffer::Text
     ensures { text_of result ≡ measure_text p }
 {
@@ -340,77 +260,66 @@ pub fn measure_text(p: Pressure) -> buffer::Text
 // ---- the bench
 
 // A pressure for a source, by its code.
-fn pressure_at(code: u8, p: Pressure) -> Benched
+#[tactic(auto, unfolding(crate::specs::Bench::pressure_at, buffer::specs::First::pick))]
+fn pressure_at(code: u8, p: Pressure) -> Option<Reading>
     ensures { result ≡ pressure_at code p }
 {
     match code {
-        0 => Benched::Accepted(Reading::P0(p)),
-        1 => Benched::Accepted(Reading::P1(p)),
-        2 => Benched::Accepted(Reading::P2(p)),
-        6 => Benched::Accepted(Reading::P6(p)),
-        7 => Benched::Accepted(Reading::P7(p)),
-        _ => Benched::Refused,
+        0 => Some(Reading::P0(p)),
+        1 => Some(Reading::P1(p)),
+        2 => Some(Reading::P2(p)),
+        6 => Some(Reading::P6(p)),
+        7 => Some(Reading::P7(p)),
+        _ => None,
     }
 }
 
 // A temperature for a source, by its code.
-fn temperature_at(code: u8, t: Temperature) -> Benched
+#[tactic(auto, unfolding(crate::specs::Bench::temperature_at, buffer::specs::First::pick))]
+fn temperature_at(code: u8, t: Temperature) -> Option<Reading>
     ensures { result ≡ temperature_at code t }
 {
     match code {
-        8 => Benched::Accepted(Reading::T2(t)),
-        9 => Benched::Accepted(Reading::T6(t)),
-        _ => Benched::Refused,
+        8 => Some(Reading::T2(t)),
+        9 => Some(Reading::T6(t)),
+        _ => None,
     }
 }
 
 // Whether a pressure source takes a number.
+#[tactic(auto, unfolding(crate::specs::Bench::takes))]
 fn takes_number(code: u8, n: decimal::Number) -> bool
     ensures { result ≡ takes code n }
 {
-    if code == 7 {
-        return true;
-    }
-    decimal::Number::ZERO.is_below(n)
+    code == 7 || decimal::Number::ZERO.is_below(n)
 }
 
-fn pressure_of(code: u8, p: decimal::Parsed) -> Benched
+#[tactic(auto, unfolding(crate::specs::Bench::pressure_of, buffer::specs::First::pick))]
+fn pressure_of(code: u8, p: Result<decimal::Number, decimal::NumberError>) -> Option<Reading>
     ensures { result ≡ pressure_of code p }
 {
-    let decimal::Parsed::Value(n) = p else {
-        return Benched::Refused;
-    };
+    let n = p.ok()?;
     if !takes_number(code, n) {
-        return Benched::Refused;
+        return None;
     }
     pressure_at(code, Pressure::Measured(n))
 }
 
-// The size of a temperature in hundredths, within its limits.
-fn degrees_of(code: u8, negative: bool, h: decimal::Hundredths) -> Benched
-    ensures { result ≡ degrees_of code negative h }
-{
-    let decimal::Hundredths::Whole(size) = h else {
-        return Benched::Refused;
-    };
-    if Readings::is_outside(negative, size) {
-        return Benched::Refused;
-    }
-    temperature_at(code, Temperature::Degrees(negative, size as u16))
-}
-
-fn temperature_of(code: u8, p: decimal::Parsed) -> Benched
+#[tactic(auto, unfolding(crate::specs::Bench::temperature_of, crate::specs::Bench::degrees_of, buffer::specs::First::pick))]
+fn temperature_of(code: u8, p: Result<decimal::Number, decimal::NumberError>) -> Option<Reading>
     ensures { result ≡ temperature_of code p }
 {
-    let decimal::Parsed::Value(n) = p else {
-        return Benched::Refused;
-    };
-    let negative = n.negative;
-    degrees_of(code, negative, decimal::in_hundredths(n))
+    let n = p.ok()?;
+    let size = decimal::in_hundredths(n)?;
+    if Readings::is_outside(n.negative, size) {
+        return None;
+    }
+    temperature_at(code, Temperature::Degrees(n.negative, size as u16))
 }
 
 // A bench setting as a reading, or refused.
-pub fn judge_bench(b: Bench) -> Benched
+#[tactic(auto, unfolding(crate::specs::Bench::bench_of, buffer::specs::First::pick))]
+pub fn judge_bench(b: Bench) -> Option<Reading>
     ensures { result ≡ bench_of b }
 {
     match b {
@@ -430,9 +339,9 @@ pub fn judge_bench(b: Bench) -> Benched
         }
         Bench::Status(v) => {
             if Readings::STATUS_MAX < v {
-                return Benched::Refused;
+                return None;
             }
-            Benched::Accepted(Reading::FS(v))
+            Some(Reading::FS(v))
         }
     }
 }

@@ -2,11 +2,10 @@
 -- handed over.
 use mathlib.Core.Path.{◌≡◌, refl, ap}
 use native.Mathlib.Omega.{arith}
+use Rattle.std.specs.Prelude.{None, Option, Some}
 use Rattle.readings.specs.Bench.{bench_of, bench_number}
 use Rattle.readings.proofs.There.{bench_there}
 use Rattle.readings.specs.declared.Reading.{Reading}
-use Rattle.readings.specs.declared.Benched.{Benched}
-use Rattle.readings.specs.declared.Benched.TheVariants.{Accepted, Refused}
 use Rattle.readings_facts.specs.Handed.{Sets}
 use Rattle.readings_facts.proofs.Kept.{accepted_sound}
 use Rattle.readings_facts.proofs.Lemmas.Handed.{handed_over, handed_back, handed_one}
@@ -23,9 +22,9 @@ bench_exactly b x = (
 pub accepts_exactly : AcceptsExactly
 accepts_exactly b = (go (bench_of b) refl, λ w. ap bench_number ((bench_exactly b w.0).1 w.1))
   where
-    go : (r : Benched) → bench_of b ≡ r → bench_number r ≡ 0 → (x : Reading) × Sets b x
-    go (Accepted x) e z = (x, (bench_exactly b x).0 e)
-    go Refused e z = absurd (omega arith)
+    go : (r : Option Reading) → bench_of b ≡ r → bench_number r ≡ 0 → (x : Reading) × Sets b x
+    go (Some x) e z = (x, (bench_exactly b x).0 e)
+    go None e z = absurd (omega arith)
 
 -- what is handed over fixes the reading
 pub handed_same : HandedSame

@@ -1,5 +1,5 @@
 -- Document 01, the bench, the values and V1's `M`: worked cases, their answers taken from the paper.
-use Rattle.std.specs.Prelude.{Bool, true, false, List, [], ◌∷◌, ℕ, eqb}
+use Rattle.std.specs.Prelude.{Bool, true, false, List, [], ◌∷◌, ℕ, eqb, None, Option, Some}
 use Prim.Native.String.{String}
 use Rattle.buffer.specs.Byte.{same_text}
 use Rattle.buffer.specs.Quoted.{bytes}
@@ -10,8 +10,7 @@ use Rattle.readings.specs.Bench.{bench_of, bench_number}
 use Rattle.readings.specs.declared.Readings.{Readings}
 use Rattle.readings.specs.declared.Bench.{Bench}
 use Rattle.readings.specs.declared.Bench.TheVariants.{Reads, UnderRange, OverRange, Faulty, Status}
-use Rattle.readings.specs.declared.Benched.{Benched}
-use Rattle.readings.specs.declared.Benched.TheVariants.{Accepted, Refused}
+use Rattle.readings.specs.declared.Reading.{Reading}
 
 -- digits with so many decimals
 abbrev pub decimals : ℕ → ℕ → Exact
@@ -77,9 +76,9 @@ abbrev pub then : Bench → ℕ → String → Sends
 then setting code text = record { setting = setting; code = code; text = bytes text }
 
 -- the readings after a bench setting at the start
-abbrev pub after : Benched → Readings
-after (Accepted x) = put_reading start x
-after Refused = start
+abbrev pub after : Option Reading → Readings
+after (Some x) = put_reading start x
+after None = start
 
 -- "A value is a number, `UR`, `OR` or `ERROR1`."
 abbrev pub values : List Sends

@@ -1,9 +1,8 @@
 -- What is proved here, each statement as a type; proofs/ has the proofs.
-use Rattle.std.specs.Prelude.{◌≡◌, ◌↔◌, true, ℕ, ◌≤◌, ◌+◌, length, take}
+use Rattle.std.specs.Prelude.{◌≡◌, ◌↔◌, true, ℕ, ◌≤◌, ◌+◌, length, take, Some}
 use Rattle.readings.specs.Bench.{bench_of, bench_number}
 use Rattle.readings.specs.declared.Reading.{Reading}
 use Rattle.readings.specs.declared.Bench.{Bench}
-use Rattle.readings.specs.declared.Benched.TheVariants.{Accepted}
 use Rattle.readings.specs.Place.{place_of, reading_at, Place, code_of}
 use Rattle.readings.specs.Reading.{start, put_reading, value_text}
 use Rattle.readings.specs.declared.Readings.{Readings}
@@ -27,7 +26,7 @@ WholeValue = (r : Readings) → SoundReadings r → (c : ℕ) → take (width_of
 
 -- "The bench sets the readings": a setting is accepted as a reading exactly where it sets that reading
 abbrev pub BenchExactly : Type 0
-BenchExactly = (b : Bench) (x : Reading) → (bench_of b ≡ Accepted x) ↔ Sets b x
+BenchExactly = (b : Bench) (x : Reading) → (bench_of b ≡ Some x) ↔ Sets b x
 
 -- "An accepted bench setting is answered 0": exactly where there is such a reading; "anything else is refused with 15 BENCH"
 abbrev pub AcceptsExactly : Type 0
@@ -39,7 +38,7 @@ HandedSame = (b : Bench) (x y : Reading) → place_of x ≡ place_of y → Hande
 
 -- what the bench accepts is what the paper allows
 abbrev pub AcceptedSound : Type 0
-AcceptedSound = (b : Bench) (x : Reading) → bench_of b ≡ Accepted x → SoundReading x
+AcceptedSound = (b : Bench) (x : Reading) → bench_of b ≡ Some x → SoundReading x
 
 -- no two sources have one code
 abbrev pub CodeOne : Type 0
@@ -59,7 +58,7 @@ StartSound = SoundReadings start
 
 -- and what the bench accepts keeps the readings so; "anything else is refused .. and changes nothing"
 abbrev pub BenchSound : Type 0
-BenchSound = (r : Readings) (b : Bench) (x : Reading) → SoundReadings r → bench_of b ≡ Accepted x → SoundReadings (put_reading r x)
+BenchSound = (r : Readings) (b : Bench) (x : Reading) → SoundReadings r → bench_of b ≡ Some x → SoundReadings (put_reading r x)
 
 -- "four mantissa digits and exponent plus 20, rounded half up to four digits": the nearest four; place 9 is the exponent 0
 abbrev pub HalfUp : Type 0

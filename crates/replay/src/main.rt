@@ -28,7 +28,7 @@
 // Any other line, and one of more than 65536 bytes, changes nothing and prints `?`. What was played is printed before more input is waited for.
 // A failed read or write is named on standard error, and nothing more is played.
 use call_words::lines;
-use lines::Cursor;
+use lines::Met;
 use std::io;
 
 mod calls;
@@ -36,23 +36,23 @@ mod calls;
 // The size of the two buffers, of what is read at once and of a line.
 const LARGE: usize = 65536;
 
-// The gauges and the input after a turn, and whether there is another.
-#[derive(Clone, Copy)]
-struct Turn {
-    world: calls::World,
-    cursor: Cursor,
-    more: bool,
+// A stream that failed, and why. `gauge` has the same lines: what they print has no contract, which a library's function needs.
+struct Failed {
+    stream: &'static str,
+    why: io::Error,
 }
 
-// Plays the line that has ended, or none.
-fn play_line(rt: &impl Print, world: calls::World, met: u8, line: &[u8]) -> calls::Played {
-    match met {
-        lines::LINE => calls::run(rt, world, line),
-        lines::LAST => calls::run(rt, world, line),
-        _ => calls::Played {
-            world,
-            written: Ok(()),
-        },
+fn no_input(why: io::Error) -> Failed {
+    Failed {
+        stream: "standard input",
+        why,
+    }
+}
+
+fn no_output(why: io::Error) -> Failed {
+    Failed {
+        stream: "standard output",
+        why,
     }
 }
 
@@ -65,71 +65,37 @@ fn without_number(text: &str) -> &str {
 }
 
 // The line that says which stream failed, and why.
-fn fail(rt: &(impl Eprint + AllocGlobal), stream: &str, e: io::Error) {
-    let _ = match format!(in rt.alloc(); "{e}") {
+fn complain(rt: &(impl Eprint + AllocGlobal), failed: Failed) {
+    let Failed { stream, why } = failed;
+    let _ = match format!(in rt.alloc(); "{why}") {
         Ok(text) => {
-            let why = without_number(text.as_str());
-            rt.eprintln(format_args!("replay: {stream}: {why}"))
+            let words = without_number(text.as_str());
+            rt.eprintln(format_args!("replay: {stream}: {words}"))
         }
-        Err(_) => rt.eprintln(format_args!("replay: {stream}: {e}")),
+        Err(_) => rt.eprintln(format_args!("replay: {stream}: {why}")),
     };
-}
-
-// Whether a line's answer was written, and the input goes on.
-fn goes_on(rt: &(impl Eprint + AllocGlobal), written: io::Result<()>, met: u8) -> bool {
-    if let Err(e) = written {
-        fail(rt, "standard output", e);
-        return false;
-    }
-    met < lines::LAST
-}
-
-// Takes the input on by a step, and plays the line that it ends.
-fn take_turn<R: Print + Eprint + Input + AllocGlobal>(
-    rt: &R,
-    reader: &mut R::Reader,
-    world: calls::World,
-    c: Cursor,
-    input: &mut [u8],
-    line: &mut [u8],
-) -> Turn {
-    let s = match lines::step(reader, c, input, line) {
-        Ok(s) => s,
-        Err(e) => {
-            fail(rt, "standard input", e);
-            return Turn {
-                world,
-                cursor: c,
-                more: false,
-            };
-        }
-    };
-    let played = play_line(rt, world, s.met, lines::line_of(line, s.len));
-    let after = played.world;
-    Turn {
-        world: after,
-        cursor: s,
-        more: goes_on(rt, played.written, s.met),
-    }
 }
 
 // Plays the whole input. A proved loop has to end, so it counts its turns, up to a number that no run reaches.
-fn play<R: Print + Eprint + Input + AllocGlobal>(rt: &R, input: &mut [u8], line: &mut [u8]) {
+fn play<R: Print + Input>(rt: &R, input: &mut [u8], line: &mut [u8]) -> Result<(), Failed> {
     let mut reader = rt.reader();
     let mut world = calls::at_start(sources::Profile::Standard);
     let mut c = lines::START;
     for _ in 0..u64::MAX {
-        let t = take_turn(rt, &mut reader, world, c, input, line);
-        if !t.more {
-            return;
+        match lines::step(&mut reader, &mut c, input, line).map_err(no_input)? {
+            Met::Part => (),
+            Met::Line(words) => calls::run(rt, &mut world, words).map_err(no_output)?,
+            Met::Last(words) => return calls::run(rt, &mut world, words).map_err(no_output),
+            Met::End => return Ok(()),
         }
-        world = t.world;
-        c = t.cursor;
     }
+    Ok(())
 }
 
 fn main(rt: HostRuntime) {
     let mut input = [0u8; LARGE];
     let mut line = [0u8; LARGE];
-    play(&rt, &mut input, &mut line);
+    if let Err(failed) = play(&rt, &mut input, &mut line) {
+        complain(&rt, failed);
+    }
 }

@@ -1,27 +1,29 @@
 -- Laws of V1 replies.
-use mathlib.Core.Path.{◌≡◌, refl, sym, ap, ◌∙◌}
-use mathlib.Core.Bool.{true, false, and-eq-true_iff, true≢false}
+use mathlib.Core.Path.{◌≡◌, refl, ap, ◌∙◌}
+use mathlib.Core.Bool.{Bool, true, false, not, and-eq-true_iff}
 use mathlib.Core.List.{List, [], ◌∷◌}
-use Prim.Native.Nat.{ℕ, ◌<◌}
+use Prim.Native.Nat.{ℕ, ◌<◌, ◌≤◌}
 use native.Mathlib.Numerals.{add-one}
 use native.Mathlib.Omega.{arith}
+use borrow.Author.Tests.{le-ltb}
 use lib.ListN.{length, take, drop, length-drop}
 use lib.Seq.{take_all}
-use Rattle.buffer.specs.First.{first}
-use Rattle.buffer.specs.Byte.{at, is_digit, every, numeral, leading}
-use Rattle.buffer.proofs.Rules.{past, stop, each, not_eqb, not_neqb}
+use Rattle.std.specs.Prelude.{Err, Result, Ok}
+use Rattle.buffer.specs.First.{pick}
+use Rattle.buffer.specs.Byte.{at, within, is_digit, every, numeral, leading}
 use Rattle.frames.specs.Frame.{is_letter, misshapen, wrong_sum, wrong_address, head_v1, frame_of}
-use Rattle.frames.specs.declared.HeadV1.{HeadV1}
 use Rattle.frames.specs.declared.Frame.{Frame}
-use Rattle.frames.specs.declared.Frame.TheVariants.{Silent, V1, Length, V2}
+use Rattle.frames.specs.declared.Frame.TheVariants.{V1}
+use Rattle.frames.proofs.Laws.{numeral_part}
 use Rattle.decimal.proofs.Laws.{numeral_low}
 use Rattle.requests.specs.AskV1.{six_digits}
 use Rattle.requests.proofs.Laws.{six_told}
 use Rattle.requests.specs.declared.RequestV1.{RequestV1}
-use Rattle.request_texts.specs.RequestText.{letter_v1}
-use Rattle.replies_v1.specs.ReplyV1.{not_v1, other_address, other_letter, rows_v1, read_v1}
-use Rattle.replies_v1.specs.declared.ReadV1.{ReadV1}
-use Rattle.replies_v1.specs.declared.ReadV1.TheVariants.{Refused}
+use Rattle.replies_v1.specs.Inner.{body_v1, via_frame}
+use Rattle.replies_v1.specs.declared.ReplyV1.TheVariants.{Reads}
+use Rattle.replies_v1.specs.ReplyV1.{pressure_v1, not_v1, other_address, other_letter, read_v1}
+use Rattle.refusals.specs.declared.Refusal.{Refusal}
+use Rattle.replies_v1.specs.declared.ReplyV1.{ReplyV1}
 
 -- ---- six digits
 
@@ -43,72 +45,34 @@ four_low s e =
 pub two_whole : (s : List ℕ) → six_digits s ≡ true → numeral (take 6 (drop 4 s)) ≡ numeral (drop 4 s)
 two_whole s e = ap numeral (take_all 6 (drop 4 s) (simp length-drop (omega (arith, (six_told s e).0))))
 
+-- a mantissa from 1000 on, and then an exponent
+pub exponent_left : (d : List ℕ) (m e : ℕ) → six_digits d ≡ true → m ≡ numeral (take 6 (take 4 d)) → e ≡ numeral (take 6 (drop 4 d)) → 1000 ≤ m
+    → pressure_v1 d ≡ pick (not (within 11 30 e)) (Err Refusal.Range) (Ok (Reads m e))
+unfolding pressure_v1 pick
+exponent_left d m e six mantissa exponent h =
+    rw (six, ← (mantissa ∙ numeral_part 4 d (omega arith)), ← (exponent ∙ two_whole d six), le-ltb m 1000 h)
+
 -- ---- a frame that has a letter at byte 3
 
--- where it is refused the reply is refused with that number; a V1 frame passes the first three rows; it is no V2 frame
-abbrev pub Told : ℕ → RequestV1 → List ℕ → Frame → Type 0
-Told address r s (Silent k) = Refused k ≡ read_v1 address r s
-Told address r s (V1 h) = (h ≡ head_v1 s) × ((a z : ReadV1) → a ≡ z → a ≡ first (take 3 (rows_v1 address r s)) z)
-Told address r s (Length h) = ⊥
-Told address r s (V2 h) = ⊥
+pub no_letter : (address : ℕ) (r : RequestV1) (s : List ℕ) → is_letter (at s 3) ≡ false → read_v1 address r s ≡ Err Refusal.Shape
+unfolding read_v1 not_v1 pick
+no_letter address r s e = rw e
 
-pub no_letter : (s : List ℕ) → is_letter (at s 3) ≡ false → not_v1 s ≡ true
-unfolding not_v1
-no_letter s e = rw e
+-- its head, and no other, fixes what it is
+by_frame : (address : ℕ) (r : RequestV1) (s : List ℕ) → is_letter (at s 3) ≡ true → via_frame address r s (frame_of s) ≡ read_v1 address r s
+unfolding via_frame frame_of read_v1 body_v1 not_v1 other_address other_letter head_v1 pick
+by_frame address r s e = rw e (go (misshapen s) (wrong_sum s) (wrong_address s))
+  where
+    rest : Result ReplyV1 Refusal
+    rest = body_v1 address r (head_v1 s) s
 
-shape : (s : List ℕ) → is_letter (at s 3) ≡ true → not_v1 s ≡ misshapen s
-unfolding not_v1
-shape s e = rw e
+    go : (m w a : Bool)
+        → via_frame address r s (pick m (Err Refusal.Shape) (pick w (Err Refusal.Checksum) (pick a (Err Refusal.Address) (Ok (V1 (head_v1 s))))))
+        ≡ pick m (Err Refusal.Shape) (pick w (Err Refusal.Checksum) (pick a (Err Refusal.Address) rest))
+    go true w a = refl
+    go false true a = refl
+    go false false true = refl
+    go false false false = refl
 
-pub told : (address : ℕ) (r : RequestV1) (s : List ℕ) → is_letter (at s 3) ≡ true → Told address r s (frame_of s)
-unfolding frame_of read_v1
-told address r s l =
-    each
-    (Told address r s)
-    (misshapen s)
-    _
-    _
-    (λ m. stop _ _ _ _ (shape s l ∙ m) refl)
-    (λ m.
-    each
-    (Told address r s)
-    (wrong_sum s)
-    _
-    _
-    (λ w. past _ _ _ _ (shape s l ∙ m) (stop _ _ _ _ w refl))
-    (λ w.
-    each
-    (Told address r s)
-    (wrong_address s)
-    _
-    _
-    (λ x. past _ _ _ _ (shape s l ∙ m) (past _ _ _ _ w (stop _ _ _ _ x refl)))
-    (λ x.
-    each
-    (Told address r s)
-    (is_letter (at s 3))
-    _
-    _
-    (λ _. (refl, λ (a z : ReadV1) (h : a ≡ z). past _ _ _ _ (shape s l ∙ m) (past _ _ _ _ w (past _ _ _ _ x h))))
-    (λ f. absurd (true≢false (sym l ∙ f))))))
-
-pub told_at : (address : ℕ) (r : RequestV1) (s : List ℕ) (f : Frame) → is_letter (at s 3) ≡ true → f ≡ frame_of s → Told address r s f
-told_at address r s f l e = rw e (told address r s l)
-
--- its address and letter
-module _ (s : List ℕ) (h : HeadV1) (e : h ≡ head_v1 s) where
-  pub other_address_lem : (address : ℕ) → (h.address ≡ address → ⊥) → other_address address s ≡ true
-  unfolding other_address head_v1
-  other_address_lem address n = not_neqb _ _ (λ q. n (ap (λ (k : HeadV1). k.address) e ∙ q))
-
-  pub own_address : (address : ℕ) → h.address ≡ address → other_address address s ≡ false
-  unfolding other_address head_v1
-  own_address address q = not_eqb _ _ (sym (ap (λ (k : HeadV1). k.address) e) ∙ q)
-
-  pub other_letter_lem : (r : RequestV1) (b : ℕ) → b ≡ letter_v1 r → (h.letter ≡ b → ⊥) → other_letter r s ≡ true
-  unfolding other_letter head_v1
-  other_letter_lem r b t n = not_neqb _ _ (λ q. n (ap (λ (k : HeadV1). k.letter) e ∙ q ∙ sym t))
-
-  pub own_letter : (r : RequestV1) (b : ℕ) → b ≡ letter_v1 r → h.letter ≡ b → other_letter r s ≡ false
-  unfolding other_letter head_v1
-  own_letter r b t q = not_eqb _ _ (sym (ap (λ (k : HeadV1). k.letter) e) ∙ q ∙ t)
+pub at_frame : (address : ℕ) (r : RequestV1) (s : List ℕ) (f : Result Frame Refusal) → is_letter (at s 3) ≡ true → f ≡ frame_of s → via_frame address r s f ≡ read_v1 address r s
+at_frame address r s f l e = ap (via_frame address r s) e ∙ by_frame address r s l

@@ -1,7 +1,6 @@
 -- What is proved here besides the contracts, each statement as a type; proofs/ has the proofs.
-use Rattle.std.specs.Prelude.{◌≡◌, ℕ, eqb}
+use Rattle.std.specs.Prelude.{◌≡◌, ℕ, eqb, Ok}
 use Rattle.replies_v2_values.specs.declared.ReplyV2.{ReplyV2}
-use Rattle.replies_v2_values.specs.declared.ReadV2.TheVariants.{Read}
 use Rattle.replies_v2.specs.ReplyV2.{read_shown_v2}
 use Rattle.reply_kinds_v2.specs.Kind.{kind_of, expected}
 use Rattle.reply_kinds_v2.specs.Taken.{taken_number, numbers_of, listed}
@@ -12,7 +11,7 @@ TakenExactly = (k : ℕ) (r : ReplyV2) → eqb (taken_number k r) 0 ≡ eqb (kin
 
 -- and it is the reply's own
 abbrev pub TakenValue : Type 0
-TakenValue = (k : ℕ) (r : ReplyV2) → kind_of r ≡ k → read_shown_v2 (expected k r) ≡ read_shown_v2 (Read r)
+TakenValue = (k : ℕ) (r : ReplyV2) → kind_of r ≡ k → read_shown_v2 (expected k r) ≡ read_shown_v2 (Ok r)
 
 -- for each reply and each kind, "refusal 14, 10 or 11" is as listed
 abbrev pub AsListed : Type 0

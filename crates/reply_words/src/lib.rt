@@ -1,29 +1,25 @@
 #![tactic(auto)]
 // A reply in words: read by the reader of its request's kind (document 01, "The master's side").
+use buffer::Text;
 use call_words::print;
-use opg_request_reader::Asked;
-use print::Shown;
+use error_texts::ErrorText;
+use opg_replies::Reply;
+use opg_reply_kinds::NoValue;
+use print::{Shown, Word};
 use readings::Pressure;
+use refusals::Refusal;
 use replies_v1::ReplyV1;
 use replies_v2_values::ReplyV2;
-use reply_kinds_v1::{FactorReadV1, MeasuredV1, UnitReadV1};
-use reply_kinds_v2::{DegreesV2, DigitV2, MeasuredV2, SettingV2};
 use request_reader::Request;
 use requests::{Command, RequestV1, RequestV2};
-use script_words::word;
-use sources::Profile;
+use sources::{Profile, Sources};
 
-fn refused(number: u16) -> Shown {
-    print::numbered(print::REFUSED, number)
+fn error(e: ErrorText) -> Shown {
+    Shown::Said(Word::Error, Text::EMPTY.add(&error_texts::error_bytes(e)))
 }
 
-fn error(e: error_texts::ErrorText) -> Shown {
-    let text = error_texts::error_bytes(e);
-    print::said(print::ERROR, buffer::Text::EMPTY.add(&text))
-}
-
-fn value(t: buffer::Text) -> Shown {
-    print::said(print::VALUE, t)
+fn value(text: Text) -> Shown {
+    Shown::Said(Word::Value, text)
 }
 
 fn pressure(p: Pressure) -> Shown {
@@ -31,208 +27,174 @@ fn pressure(p: Pressure) -> Shown {
 }
 
 // The written form of a V1 reading, of which the exponent is 20 too large: 11 to 30.
-fn reading_text(mantissa: u16, exponent: u8) -> buffer::Text {
-    let digits = mantissa as u32 * 100;
+fn reading_text(mantissa: u16, exponent: u8) -> Text {
+    let mantissa = u32::from(mantissa) * 100;
     if exponent == 30 {
         // 10^10: the text of 10^1, and a digit more of the exponent
         return decimal_text::written(decimal::Number {
             negative: false,
-            mantissa: digits,
+            mantissa,
             place: 10,
         })
         .push(b'0');
     }
     decimal_text::written(decimal::Number {
         negative: false,
-        mantissa: digits,
-        place: ((exponent as u16 + 9) % 20) as u8,
+        mantissa,
+        place: ((u16::from(exponent) + 9) % 20) as u8,
     })
 }
 
-// ---- the value that a V1 request asks for
-
-fn show_measured_v1(taken: MeasuredV1) -> Shown {
-    match taken {
-        MeasuredV1::Value(mantissa, exponent) => value(reading_text(mantissa, exponent)),
-        MeasuredV1::Refused(k) => refused(k as u16),
-    }
-}
-
-fn show_factor(taken: FactorReadV1) -> Shown {
-    match taken {
-        FactorReadV1::Value(h) => value(decimal_text::two_decimals(false, h)),
-        FactorReadV1::Refused(k) => refused(k as u16),
-    }
-}
-
-fn show_unit(taken: UnitReadV1) -> Shown {
-    match taken {
-        UnitReadV1::Value(u) => value(settings::unit_text(u)),
-        UnitReadV1::Refused(k) => refused(k as u16),
-    }
-}
-
-// Taken out by the request's kind; a set request has no value.
-fn show_value_v1(request: RequestV1, reply: ReplyV1) -> Shown {
+// The value that a V1 request asks for. A set request has none.
+fn value_v1(request: RequestV1, reply: ReplyV1) -> Result<Text, Refusal> {
     match request {
-        RequestV1::Measure => show_measured_v1(reply_kinds_v1::measured_of(reply)),
-        RequestV1::ReadFactor => show_factor(reply_kinds_v1::factor_of(reply)),
-        RequestV1::ReadUnit => show_unit(reply_kinds_v1::unit_of(reply)),
-        _ => refused(14),
+        RequestV1::Measure => {
+            let (mantissa, exponent) = reply_kinds_v1::measured_of(reply)?;
+            Ok(reading_text(mantissa, exponent))
+        }
+        RequestV1::ReadFactor => {
+            let hundredths = reply_kinds_v1::factor_of(reply)?;
+            Ok(decimal_text::two_decimals(false, hundredths))
+        }
+        RequestV1::ReadUnit => {
+            let unit = reply_kinds_v1::unit_of(reply)?;
+            Ok(settings::unit_text(unit))
+        }
+        _ => Err(Refusal::Mismatch),
     }
 }
 
-fn show_v1(request: RequestV1, reply: ReplyV1) -> Shown {
+fn read_v1(address: u16, request: RequestV1, bytes: &[u8]) -> Result<Shown, Refusal> {
+    let reply = replies_v1::read_reply_v1(address, request, bytes)?;
     match reply {
-        ReplyV1::UnderRange => pressure(Pressure::UnderRange),
-        ReplyV1::OverRange => pressure(Pressure::OverRange),
-        ReplyV1::Done => print::word_alone(print::DONE),
-        ReplyV1::Error(e) => error(e),
-        _ => show_value_v1(request, reply),
+        ReplyV1::UnderRange => Ok(pressure(Pressure::UnderRange)),
+        ReplyV1::OverRange => Ok(pressure(Pressure::OverRange)),
+        ReplyV1::Done => Ok(print::word_alone(Word::Done)),
+        ReplyV1::Error(e) => Ok(error(e)),
+        _ => {
+            let text = value_v1(request, reply)?;
+            Ok(value(text))
+        }
     }
 }
 
-fn read_v1(address: u16, request: RequestV1, bytes: &[u8]) -> Shown {
-    match replies_v1::read_reply_v1(address, request, bytes) {
-        replies_v1::ReadV1::Refused(k) => refused(k as u16),
-        replies_v1::ReadV1::Read(reply) => show_v1(request, reply),
-    }
-}
-
-// ---- the value that a V2 request asks for
-
-fn show_measured(taken: MeasuredV2) -> Shown {
-    match taken {
-        MeasuredV2::Value(n) => pressure(Pressure::Measured(n)),
-        MeasuredV2::Refused(k) => refused(k as u16),
-    }
-}
-
-fn show_degrees(taken: DegreesV2) -> Shown {
-    match taken {
-        DegreesV2::Value(negative, h) => value(decimal_text::two_decimals(negative, h)),
-        DegreesV2::Refused(k) => refused(k as u16),
-    }
-}
-
-fn show_digit(taken: DigitV2) -> Shown {
-    match taken {
-        DigitV2::Value(d) => value(settings::digit_text(d)),
-        DigitV2::Refused(k) => refused(k as u16),
-    }
-}
-
-fn show_setting(taken: SettingV2, list: sources::Sources) -> Shown {
-    match taken {
-        SettingV2::Value(x) => value(request_texts::data_v2(RequestV2::Set(x), list)),
-        SettingV2::Refused(k) => refused(k as u16),
-    }
-}
-
-fn show_read(command: Command, reply: ReplyV2, list: sources::Sources) -> Shown {
+// The value of a command. SM's list stands beside the reply.
+fn value_of(command: Command, reply: ReplyV2, list: Sources) -> Result<Text, Refusal> {
     match command {
-        Command::MV => show_measured(reply_kinds_v2::pressure_of(reply)),
-        Command::T2 => show_degrees(reply_kinds_v2::degrees_of(reply)),
-        Command::FN => show_digit(reply_kinds_v2::filament_of(reply)),
-        Command::FS => show_digit(reply_kinds_v2::status_of(reply)),
-        Command::Of(_) => show_setting(reply_kinds_v2::setting_of(reply), list),
+        Command::MV => {
+            let n = reply_kinds_v2::pressure_of(reply)?;
+            Ok(readings::pressure_text(Pressure::Measured(n)))
+        }
+        Command::T2 => {
+            let (negative, hundredths) = reply_kinds_v2::degrees_of(reply)?;
+            Ok(decimal_text::two_decimals(negative, hundredths))
+        }
+        Command::FN => {
+            let digit = reply_kinds_v2::filament_of(reply)?;
+            Ok(settings::digit_text(digit))
+        }
+        Command::FS => {
+            let digit = reply_kinds_v2::status_of(reply)?;
+            Ok(settings::digit_text(digit))
+        }
+        Command::Of(_) => {
+            let setting = reply_kinds_v2::setting_of(reply)?;
+            Ok(request_texts::data_v2(RequestV2::Set(setting), list))
+        }
     }
 }
 
-// Taken out by the request's kind; a write or a restore has no value.
-fn show_value_v2(request: RequestV2, reply: ReplyV2, list: sources::Sources) -> Shown {
+// The value that a V2 request asks for. A write or a restore has none.
+fn value_v2(request: RequestV2, reply: ReplyV2, list: Sources) -> Result<Text, Refusal> {
     let RequestV2::Read(command) = request else {
-        return refused(14);
+        return Err(Refusal::Mismatch);
     };
-    show_read(command, reply, list)
+    value_of(command, reply, list)
 }
 
-fn show_v2(request: RequestV2, reply: ReplyV2, list: sources::Sources) -> Shown {
-    match reply {
-        ReplyV2::UnderRange => pressure(Pressure::UnderRange),
-        ReplyV2::OverRange => pressure(Pressure::OverRange),
-        ReplyV2::Done => print::word_alone(print::DONE),
-        ReplyV2::Error(e) => error(e),
-        _ => show_value_v2(request, reply, list),
-    }
-}
-
-fn read_v2(profile: Profile, address: u16, request: RequestV2, bytes: &[u8]) -> Shown {
+fn read_v2(
+    profile: Profile,
+    address: u16,
+    request: RequestV2,
+    bytes: &[u8],
+) -> Result<Shown, Refusal> {
     let answer = replies_v2::read_reply_v2(profile, address, request, bytes);
-    let read = answer.read;
     let list = answer.sources;
-    match read {
-        replies_v2_values::ReadV2::Refused(k) => refused(k as u16),
-        replies_v2_values::ReadV2::Read(reply) => show_v2(request, reply, list),
+    let reply = answer.value?;
+    match reply {
+        ReplyV2::UnderRange => Ok(pressure(Pressure::UnderRange)),
+        ReplyV2::OverRange => Ok(pressure(Pressure::OverRange)),
+        ReplyV2::Done => Ok(print::word_alone(Word::Done)),
+        ReplyV2::Error(e) => Ok(error(e)),
+        _ => {
+            let text = value_v2(request, reply, list)?;
+            Ok(value(text))
+        }
     }
 }
 
-// A text gauge's reply, which came from this address and stands behind its request of n bytes. Both are read as a profile's.
-pub fn read(profile: Profile, from: usize, bytes: &[u8], n: usize) -> Shown {
-    let address = (from % 65536) as u16;
-    let came = buffer::rest(bytes, n);
-    let decoded = request_reader::read_request(profile, word::front(bytes, n));
-    let r = decoded.request;
-    match r {
-        Request::Refused(k) => refused(k as u16),
-        Request::V1(_, asks) => read_v1(address, asks, came),
-        Request::V2(_, asks) => read_v2(profile, address, asks, came),
+fn read_text(profile: Profile, from: u16, request: &[u8], reply: &[u8]) -> Result<Shown, Refusal> {
+    let decoded = request_reader::read_request(profile, request);
+    match decoded.value? {
+        Request::V1(_, asks) => read_v1(from, asks, reply),
+        Request::V2(_, asks) => read_v2(profile, from, asks, reply),
+    }
+}
+
+fn refused(number: u16) -> Shown {
+    print::numbered(Word::Refused, number)
+}
+
+// A text gauge's reply to a request, which came from this address. Both are read as a profile's.
+pub fn read(profile: Profile, from: u16, request: &[u8], reply: &[u8]) -> Shown {
+    match read_text(profile, from, request, reply) {
+        Ok(shown) => shown,
+        Err(k) => refused(u16::from(k.number())),
     }
 }
 
 // The bits of a pressure. A pressure that was read is no NaN.
 fn show_bits(p: f32) -> Shown {
     if p != p {
-        return print::unknown();
+        return Shown::Unknown;
     }
-    print::bits(print::PRESSURE, f32::to_bits(p))
+    print::bits(Word::Pressure, f32::to_bits(p))
 }
 
-fn show_measured_opg(taken: opg_reply_kinds::Measured) -> Shown {
-    match taken {
-        opg_reply_kinds::Measured::Value(p) => show_bits(p),
-        opg_reply_kinds::Measured::Refused(k) => refused(k),
-    }
-}
-
-fn show_unit_opg(taken: opg_reply_kinds::UnitRead) -> Shown {
-    match taken {
-        opg_reply_kinds::UnitRead::Value(u) => print::numbered(print::UNIT, u as u16),
-        opg_reply_kinds::UnitRead::Refused(k) => refused(k),
-    }
-}
-
-// Taken out by the request's kind; a write has no value.
-fn show_value_opg(request: opg_commands::Request, reply: opg_replies::Reply) -> Shown {
+// The value that a request to an OPG asks for. A write has none.
+fn value_opg(request: opg_commands::Request, reply: Reply) -> Result<Shown, NoValue> {
     match request {
-        opg_commands::Request::ReadPressure(_) => show_measured_opg(opg_reply_kinds::pressure_of(
-            reply,
-        )),
-        opg_commands::Request::ReadUnit => show_unit_opg(opg_reply_kinds::unit_of(reply)),
-        _ => refused(26),
+        opg_commands::Request::ReadPressure(_) => {
+            let p = opg_reply_kinds::pressure_of(reply)?;
+            Ok(show_bits(p))
+        }
+        opg_commands::Request::ReadUnit => {
+            let unit = opg_reply_kinds::unit_of(reply)?;
+            Ok(print::numbered(Word::Unit, u16::from(unit)))
+        }
+        _ => Err(NoValue::OtherKind),
     }
 }
 
-fn show_opg(request: opg_commands::Request, reply: opg_replies::Reply) -> Shown {
+fn show_opg(request: opg_commands::Request, reply: Reply) -> Shown {
     match reply {
-        opg_replies::Reply::Done => print::word_alone(print::DONE),
-        opg_replies::Reply::Error(e) => print::numbered(print::ERROR, e as u16),
-        _ => show_value_opg(request, reply),
+        Reply::Done => print::word_alone(Word::Done),
+        Reply::Error(e) => print::numbered(Word::Error, u16::from(e)),
+        _ => match value_opg(request, reply) {
+            Ok(shown) => shown,
+            Err(why) => refused(why.number()),
+        },
     }
 }
 
-fn read_reply(request: opg_commands::Request, bytes: &[u8]) -> Shown {
-    match opg_replies::read_reply(request, bytes) {
-        opg_replies::ReadOpg::Refused(k) => refused(k as u16),
-        opg_replies::ReadOpg::Read(reply) => show_opg(request, reply),
-    }
-}
-
-// An OPG's reply, which stands behind its request of n bytes.
-pub fn read_opg(bytes: &[u8], n: usize) -> Shown {
-    match opg_request_reader::read_request(word::front(bytes, n)) {
-        Asked::Silent(k) => refused(k as u16),
-        Asked::Error(e) => refused(1000 + e as u16),
-        Asked::Accepted(r) => read_reply(r, buffer::rest(bytes, n)),
+// An OPG's reply to a request.
+pub fn read_opg(request: &[u8], reply: &[u8]) -> Shown {
+    let asks = match opg_request_reader::read_request(request) {
+        Ok(asks) => asks,
+        Err(denied) => return refused(denied.number()),
+    };
+    match opg_replies::read_reply(asks, reply) {
+        Ok(read) => show_opg(asks, read),
+        Err(k) => refused(u16::from(k.number())),
     }
 }

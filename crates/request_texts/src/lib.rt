@@ -11,6 +11,7 @@ use requests::{Command, RequestV1, RequestV2};
 // ---- V2
 
 // The access code of a request.
+#[tactic(auto, unfolding(crate::specs::RequestText::access_of))]
 pub fn access_code(request: RequestV2) -> u8
     ensures { result ≡ access_of request }
 {
@@ -22,37 +23,38 @@ pub fn access_code(request: RequestV2) -> u8
 }
 
 // The command of a request.
+#[tactic(auto, unfolding(crate::specs::RequestText::command_in))]
 pub fn command_in(request: RequestV2) -> Command
     ensures { result ≡ command_in request }
 {
     match request {
-        RequestV2::Read(c) => c,
-        RequestV2::Restore(c) => c,
+        RequestV2::Read(c) | RequestV2::Restore(c) => c,
         RequestV2::Set(x) => Command::Of(settings::key_of(x)),
     }
 }
 
 // The head of a request's frame.
+#[tactic(auto, unfolding(crate::specs::RequestText::head_for))]
 pub fn head_for(address: u16, request: RequestV2) -> frames::HeadV2
     ensures { result ≡ head_for address request }
 {
-    let access = access_code(request);
-    let name = requests::command_bytes(command_in(request));
+    let [first, second] = requests::command_bytes(command_in(request));
     frames::HeadV2 {
         address,
-        access,
-        first: name[0],
-        second: name[1],
+        access: access_code(request),
+        first,
+        second,
     }
 }
 
-// The data of a request: a write sends what a read of the setting sends after it, whatever else is held.
+// The data of a request: a write sends what a read of the setting sends after it, whatever else is held. (The list is a parameter of its own, as of the
+// writer: callers have it apart.)
+#[tactic(auto, unfolding(crate::specs::RequestText::data_v2, buffer::specs::Text::text_of))]
 pub fn data_v2(request: RequestV2, list: sources::Sources) -> buffer::Text
     ensures { text_of result ≡ data_v2 request (list_of list) }
 {
     match request {
-        RequestV2::Read(_) => buffer::Text::EMPTY,
-        RequestV2::Restore(_) => buffer::Text::EMPTY,
+        RequestV2::Read(_) | RequestV2::Restore(_) => buffer::Text::EMPTY,
         RequestV2::Set(x) => settings::Settings::at_factory(sources::Profile::Standard)
             .with(x, list)
             .text(settings::key_of(x)),
@@ -61,7 +63,8 @@ pub fn data_v2(request: RequestV2, list: sources::Sources) -> buffer::Text
 
 // ---- V1
 
-// The last six digits of a number.
+// The last six digits of a number. (Leading zeros stand, so no printing of the library's serves.)
+#[tactic(auto, unfolding(buffer::specs::Text::text_of, buffer::specs::Text::cut))]
 pub fn six_digits(n: u32) -> buffer::Text
     ensures { text_of result ≡ digits6 n }
 {
@@ -77,29 +80,28 @@ pub fn six_digits(n: u32) -> buffer::Text
 }
 
 // The letter of a request.
+#[tactic(auto, unfolding(crate::specs::RequestText::letter_v1))]
 pub fn letter_v1(request: RequestV1) -> u8
     ensures { result ≡ letter_v1 request }
 {
     match request {
         RequestV1::Measure => b'M',
         RequestV1::ReadFactor => b'C',
-        RequestV1::Unlock => b'c',
-        RequestV1::SetFactor(_) => b'c',
+        RequestV1::Unlock | RequestV1::SetFactor(_) => b'c',
         RequestV1::ReadUnit => b'U',
         RequestV1::SetUnit(_) => b'u',
     }
 }
 
 // The data of a request.
+#[tactic(auto, unfolding(crate::specs::RequestText::data_v1, buffer::specs::Text::text_of, buffer::specs::Text::cut))]
 pub fn data_v1(request: RequestV1) -> buffer::Text
     ensures { text_of result ≡ data_v1 request }
 {
     match request {
-        RequestV1::Measure => buffer::Text::EMPTY,
-        RequestV1::ReadFactor => buffer::Text::EMPTY.push(b'1'),
-        RequestV1::Unlock => buffer::Text::EMPTY.push(b'1'),
+        RequestV1::Measure | RequestV1::ReadUnit => buffer::Text::EMPTY,
+        RequestV1::ReadFactor | RequestV1::Unlock => buffer::Text::EMPTY.push(b'1'),
         RequestV1::SetFactor(n) => six_digits(n),
-        RequestV1::ReadUnit => buffer::Text::EMPTY,
         RequestV1::SetUnit(unit) => six_digits(settings::unit_number(unit)),
     }
 }

@@ -1,16 +1,18 @@
 #![tactic(auto)]
 // The master's requests to a text gauge, written into lent memory (document 01, "The master's side").
-ghost use Rattle.std.specs.Prelude.{◌≡◌, true, not, ◌&&◌, ◌≤◌, eqb, length};
-ghost use Rattle.frame_writer.specs.Written.{is_address};
+ghost use Rattle.std.specs.Prelude.{◌≡◌, Ok, length};
+ghost use Rattle.refusals.specs.Number.{refusal_number};
 ghost use Rattle.buffer.specs.Answer.{Sent};
 ghost use Rattle.sources.specs.Source.{list_of};
 ghost use Rattle.settings.specs.Limits.{limits_of};
 ghost use Rattle.request_writer.specs.Typed.{limited_number, ends_in, typed_digit, typed_address, typed_stream, judged_digit, typed_verdict, formed_v2, formed_v1};
-ghost use Rattle.request_writer.specs.Written.{sent_v2, request_written_v2, request_written_v1};
+ghost use Rattle.request_writer.specs.Written.{request_written_v2, request_written_v1};
+ghost use Rattle.request_writer.specs.Inner.{once_lent};
 
-use forms::{Digit, Ends, Verdict};
-use requests::{AskV2, RequestV1, RequestV2};
-use settings::{Setting, Settings};
+use forms::Ends;
+use refusals::Refusal;
+use requests::{RequestV1, RequestV2};
+use settings::{Setting, Settings, Transition};
 
 // The lent memory that a request asks for.
 pub const ROOM: usize = 109;
@@ -18,7 +20,8 @@ pub const ROOM: usize = 109;
 // ---- values
 
 // A number of ST, judged by its value.
-fn limited_number(profile: sources::Profile, n: decimal::Number) -> forms::Limited
+#[tactic(auto, unfolding(crate::specs::Typed::limited_number))]
+fn limited_number(profile: sources::Profile, n: decimal::Number) -> Result<decimal::Number, Refusal>
     ensures { result ≡ limited_number (limits_of profile) n }
 {
     let exact = decimal::Exact {
@@ -31,84 +34,85 @@ fn limited_number(profile: sources::Profile, n: decimal::Number) -> forms::Limit
 }
 
 // The numbers of a typed transition. The form of two numbers is one of the profile's, or none.
-fn ends_in(profile: sources::Profile, t: settings::Transition) -> Ends
+#[tactic(auto, unfolding(crate::specs::Typed::ends_in, buffer::specs::First::pick))]
+fn ends_in(profile: sources::Profile, t: Transition) -> Ends
     ensures { result ≡ ends_in (limits_of profile) t }
 {
     match t {
-        settings::Transition::Direct(n) => Ends::One(limited_number(profile, n)),
-        settings::Transition::Between(low, high) => {
-            if !Settings::has_between(profile) {
-                return Ends::None;
-            }
-            Ends::Two(limited_number(profile, low), limited_number(profile, high))
-        }
+        Transition::Direct(n) => Ends::One(limited_number(profile, n)),
+        Transition::Between(low, high) if Settings::has_between(profile) => Ends::Two(
+            limited_number(profile, low),
+            limited_number(profile, high),
+        ),
+        Transition::Between(_, _) => Ends::None,
     }
 }
 
 // A one-digit setting, up to `most`.
-fn typed_digit(most: u8, d: u8) -> Digit
+#[tactic(auto, unfolding(crate::specs::Typed::typed_digit, buffer::specs::First::pick))]
+fn typed_digit(most: u8, d: u8) -> Result<u8, Refusal>
     ensures { result ≡ typed_digit most d }
 {
     if 10 <= d {
-        return Digit::Refused(10);
+        return Err(Refusal::Syntax);
     }
     if most < d {
-        return Digit::Refused(11);
+        return Err(Refusal::Range);
     }
-    Digit::Is(d)
+    Ok(d)
 }
 
-fn typed_address(a: u8) -> Verdict
+#[tactic(auto, unfolding(crate::specs::Typed::typed_address, buffer::specs::First::pick))]
+fn typed_address(a: u8) -> Result<Setting, Refusal>
     ensures { result ≡ typed_address a }
 {
     if !buffer::is_within(a, Settings::ADDRESS_MIN, Settings::ADDRESS_MAX) {
-        return Verdict::Refused(11);
+        return Err(Refusal::Range);
     }
-    Verdict::Set(Setting::Address(a))
+    Ok(Setting::Address(a))
 }
 
-// Whether the mode is 0 and a list stands beside it.
-fn is_idle_list(on: bool, count: usize) -> bool
-    ensures { result ≡ (not on && not (eqb count 0)) }
-{
-    if on {
-        return false;
-    }
-    count != 0
-}
-
-fn typed_stream(profile: sources::Profile, on: bool, q: sources::Sources) -> Verdict
+// SM: off and no list, or on and a list of the profile's sources, each once.
+#[tactic(auto, using(settings::proofs::Laws::codes_are), unfolding(crate::specs::Typed::typed_stream, buffer::specs::First::pick))]
+fn typed_stream(
+    profile: sources::Profile,
+    on: bool,
+    q: sources::Sources,
+) -> Result<Setting, Refusal>
     ensures { result ≡ typed_stream (limits_of profile) on (list_of q) }
 {
-    if is_idle_list(on, q.size()) {
-        return Verdict::Refused(10);
+    if !on && q.size() != 0 {
+        return Err(Refusal::Syntax);
     }
     if !sources::all_known(profile, q) {
-        return Verdict::Refused(11);
+        return Err(Refusal::Range);
     }
     if !sources::stand_once(q) {
-        return Verdict::Refused(12);
+        return Err(Refusal::Logic);
     }
-    Verdict::Set(Setting::Stream(on))
+    Ok(Setting::Stream(on))
 }
 
-fn digit_verdict(x: Setting, d: Digit) -> Verdict
+#[tactic(auto, unfolding(crate::specs::Typed::judged_digit))]
+fn digit_verdict(x: Setting, d: Result<u8, Refusal>) -> Result<Setting, Refusal>
     ensures { result ≡ judged_digit x d }
 {
-    match d {
-        Digit::Is(_) => Verdict::Set(x),
-        Digit::Refused(k) => Verdict::Refused(k),
-    }
+    d.map(|_| x)
 }
 
-// A typed write to a gauge of this profile: the setting with its numbers canonical, or the refusal's number.
-pub fn judge_setting(profile: sources::Profile, x: Setting, q: sources::Sources) -> Verdict
+// A typed write to a gauge of this profile: the setting with its numbers canonical, or the first refusal that applies.
+#[tactic(auto, unfolding(crate::specs::Typed::typed_verdict))]
+pub fn judge_setting(
+    profile: sources::Profile,
+    x: Setting,
+    q: sources::Sources,
+) -> Result<Setting, Refusal>
     ensures { result ≡ typed_verdict (limits_of profile) x q }
 {
     match x {
         Setting::Address(a) => typed_address(a),
-        Setting::PressureIn(_) => Verdict::Set(x),
-        Setting::Factor(h) => forms::factor_in(decimal::Hundredths::Whole(h as u32)),
+        Setting::PressureIn(_) => Ok(x),
+        Setting::Factor(h) => forms::factor_in(Some(h as u32)),
         Setting::Control(d) => digit_verdict(x, typed_digit(Settings::CONTROL_MAX, d)),
         Setting::Cathode(d) => digit_verdict(x, typed_digit(Settings::CATHODE_MAX, d)),
         Setting::Filament(d) => digit_verdict(x, typed_digit(Settings::FILAMENT_MAX, d)),
@@ -117,68 +121,67 @@ pub fn judge_setting(profile: sources::Profile, x: Setting, q: sources::Sources)
     }
 }
 
-// A typed V2 request with its numbers canonical, or the refusal's number.
-fn formed_v2(profile: sources::Profile, request: RequestV2, q: sources::Sources) -> AskV2
-    ensures { result ≡ formed_v2 (limits_of profile) request q }
+// ---- requests
+
+// Refuses where less than 109 bytes are lent, and then where the address is outside 1 to 999.
+#[tactic(auto, unfolding(crate::specs::Inner::once_lent, buffer::specs::First::pick))]
+fn lent(room: usize, address: u16) -> Result<(), Refusal>
+    ensures { result ≡ once_lent room address (Ok tt) }
 {
+    if room < ROOM {
+        return Err(Refusal::Room);
+    }
+    if !frame_writer::is_address(address) {
+        return Err(Refusal::Address);
+    }
+    Ok(())
+}
+
+// A typed V2 request with its numbers canonical, or the first refusal that applies.
+#[tactic(auto, unfolding(crate::specs::Inner::once_lent, crate::specs::Typed::formed_v2, requests::specs::AskV2::set_of, buffer::specs::First::pick))]
+fn formed_v2(
+    room: usize,
+    profile: sources::Profile,
+    address: u16,
+    request: RequestV2,
+    q: sources::Sources,
+) -> Result<RequestV2, Refusal>
+    ensures { result ≡ once_lent room address (formed_v2 (limits_of profile) request q) }
+{
+    lent(room, address)?;
     match request {
-        RequestV2::Read(_) => AskV2::Asks(request),
-        RequestV2::Restore(c) => {
-            if requests::lacks_access(b'4', c) {
-                return AskV2::Refused(9);
-            }
-            AskV2::Asks(request)
-        }
-        RequestV2::Set(x) => match judge_setting(profile, x, q) {
-            Verdict::Set(y) => AskV2::Asks(RequestV2::Set(y)),
-            Verdict::Refused(k) => AskV2::Refused(k),
-        },
+        RequestV2::Restore(c) if requests::lacks_access(b'4', c) => Err(Refusal::Access),
+        RequestV2::Read(_) | RequestV2::Restore(_) => Ok(request),
+        RequestV2::Set(x) => judge_setting(profile, x, q).map(RequestV2::Set),
     }
 }
 
-// The number of a typed V1 request.
-fn formed_v1(request: RequestV1) -> u8
-    ensures { result ≡ formed_v1 request }
+// A typed V1 request, or the first refusal that applies.
+#[tactic(auto, unfolding(crate::specs::Inner::once_lent, crate::specs::Typed::formed_v1, buffer::specs::First::pick))]
+fn formed_v1(room: usize, address: u16, request: RequestV1) -> Result<RequestV1, Refusal>
+    ensures { result ≡ once_lent room address (formed_v1 request) }
 {
-    let RequestV1::SetFactor(n) = request else {
-        return 0;
-    };
-    if 1000000 <= n {
-        return 10;
+    lent(room, address)?;
+    match request {
+        RequestV1::SetFactor(n) if 1000000 <= n => Err(Refusal::Syntax),
+        RequestV1::SetFactor(n) if !Settings::is_factor(n) => Err(Refusal::Range),
+        _ => Ok(request),
     }
-    if !Settings::is_factor(n) {
-        return 11;
-    }
-    0
 }
 
 // ---- frames
 
-fn refused(number: u8) -> buffer::Written
-    ensures { result ≡ record { number = number; len = 0 } }
+fn refused(k: Refusal) -> buffer::Written
+    ensures { result ≡ record { number = refusal_number k; len = 0 } }
 {
     buffer::Written {
-        number: number as u16,
+        number: k.number() as u16,
         len: 0,
     }
 }
 
-// Writes the frame of a request that is formed.
-fn send_v2(out: &mut [u8], address: u16, ask: AskV2, q: sources::Sources) -> buffer::Written
-    requires { (34 ≤ length out.old) × (is_address address ≡ true) }
-    ensures { Sent out.old (sent_v2 address ask (list_of q)) out.new result }
-{
-    match ask {
-        AskV2::Refused(k) => refused(k),
-        AskV2::Asks(request) => {
-            let text = request_texts::data_v2(request, q);
-            frame_writer::write_text_v2(out, request_texts::head_for(address, request), text)
-        }
-    }
-}
-
 // Writes a V2 request to a gauge of this profile. Refuses with 1 where less than 109 bytes are lent, 4 where the address is outside 1 to 999, then
-// with 9, 10, 11 or 12; then out stays as it was.
+// with 9, 10, 11 or 12; then out stays as it was. (The list is a parameter of its own: callers have it apart, and a pair made for the call is no plainer.)
 pub fn write_request_v2(
     out: &mut [u8],
     profile: sources::Profile,
@@ -188,30 +191,25 @@ pub fn write_request_v2(
 ) -> buffer::Written
     ensures { Sent out.old (request_written_v2 (limits_of profile) (length out.old) address request q) out.new result }
 {
-    if out.len() < ROOM {
-        return refused(1);
+    match formed_v2(out.len(), profile, address, request, q) {
+        Ok(r) => {
+            let head = request_texts::head_for(address, r);
+            frame_writer::write_text(out, head, request_texts::data_v2(r, q))
+        }
+        Err(k) => refused(k),
     }
-    if !frame_writer::is_address(address) {
-        return refused(4);
-    }
-    send_v2(out, address, formed_v2(profile, request, q), q)
 }
 
-// Writes a V1 request. Refuses as write_request_v2 does.
+// Writes a V1 request. Refuses as write_request_v2 does. (What the two writers share is in `lent`: a trait over both kinds of request is longer.)
 pub fn write_request_v1(out: &mut [u8], address: u16, request: RequestV1) -> buffer::Written
     ensures { Sent out.old (request_written_v1 (length out.old) address request) out.new result }
 {
-    if out.len() < ROOM {
-        return refused(1);
+    match formed_v1(out.len(), address, request) {
+        Ok(r) => {
+            let letter = request_texts::letter_v1(r);
+            let head = frames::HeadV1 { address, letter };
+            frame_writer::write_text(out, head, request_texts::data_v1(r))
+        }
+        Err(k) => refused(k),
     }
-    if !frame_writer::is_address(address) {
-        return refused(4);
-    }
-    let number = formed_v1(request);
-    if number != 0 {
-        return refused(number);
-    }
-    let text = request_texts::data_v1(request);
-    let letter = request_texts::letter_v1(request);
-    frame_writer::write_text_v1(out, frames::HeadV1 { address, letter }, text)
 }

@@ -1,13 +1,11 @@
 -- The commands of V2 and the column "Access".
-use Rattle.std.specs.Prelude.{Bool, true, false, not, ◌||◌, List, [], ◌∷◌, ℕ, eqb}
+use Rattle.std.specs.Prelude.{Bool, true, false, not, ◌||◌, List, [], ◌∷◌, ℕ, eqb, None, Option, Some}
 use Rattle.buffer.specs.First.{◌⇒◌, first, pick}
 use Rattle.buffer.specs.Byte.{same_text}
 use Rattle.buffer.specs.Quoted.{bytes}
 use Rattle.settings.specs.declared.Key.TheVariants.{DA, DU, C1, CM, CC, FC, ST, SM}
 use Rattle.requests.specs.declared.Command.{Command}
 use Rattle.requests.specs.declared.Command.TheVariants.{MV, T2, FN, FS, Of}
-use Rattle.requests.specs.declared.Named.{Named}
-use Rattle.requests.specs.declared.Named.TheVariants.{Known, Unknown}
 
 -- the two characters of a command
 unfoldable pub command_text : Command → List ℕ
@@ -29,12 +27,12 @@ abbrev pub commands : List Command
 commands = MV ∷ T2 ∷ FN ∷ FS ∷ Of DA ∷ Of DU ∷ Of C1 ∷ Of CM ∷ Of CC ∷ Of FC ∷ Of ST ∷ Of SM ∷ []
 
 -- the first of these commands whose text it is
-unfoldable pub find_command : List Command → List ℕ → Named
-find_command [] t = Unknown
-find_command (c ∷ cs) t = pick (same_text t (command_text c)) (Known c) (find_command cs t)
+unfoldable pub find_command : List Command → List ℕ → Option Command
+find_command [] t = None
+find_command (c ∷ cs) t = pick (same_text t (command_text c)) (Some c) (find_command cs t)
 
 -- the command that two bytes name. "Commands not named here are unknown."
-unfoldable pub command_of : ℕ → ℕ → Named
+unfoldable pub command_of : ℕ → ℕ → Option Command
 command_of a b = find_command commands (a ∷ b ∷ [])
 
 -- "read 0", "write 2", "factory default 4", as characters

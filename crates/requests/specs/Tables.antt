@@ -1,6 +1,6 @@
 -- Document 01, two tables written out from the paper, each beside what the definitions give: the column "Access", and V1's letters with their
 -- data.
-use Rattle.std.specs.Prelude.{Bool, true, false, not, List, [], ◌∷◌, map, ℕ}
+use Rattle.std.specs.Prelude.{Bool, true, false, not, List, [], ◌∷◌, map, ℕ, Err, Ok, Result}
 use Prim.Native.String.{String}
 use Rattle.buffer.specs.Byte.{at}
 use Rattle.buffer.specs.Quoted.{bytes}
@@ -10,9 +10,9 @@ use Rattle.requests.specs.Command.{read_code, write_code, restore_code, lacks_ac
 use Rattle.requests.specs.AskV1.{ask_v1}
 use Rattle.requests.specs.declared.Command.{Command}
 use Rattle.requests.specs.declared.Command.TheVariants.{MV, T2, FN, FS, Of}
+use Rattle.requests.specs.declared.RequestV1.{RequestV1}
 use Rattle.requests.specs.declared.RequestV1.TheVariants.{Measure, ReadFactor, Unlock, SetFactor, ReadUnit, SetUnit}
-use Rattle.requests.specs.declared.AskV1.{AskV1}
-use Rattle.requests.specs.declared.AskV1.TheVariants.{Asks, Refused}
+use Rattle.refusals.specs.declared.Refusal.{Refusal}
 
 -- ---- the column "Access"
 
@@ -53,66 +53,66 @@ accesses_printed r = r.accesses
 pub record LetterRow : Type 0 where
   pub letter : List ℕ
   pub text : List ℕ
-  pub ask : AskV1
+  pub ask : Result RequestV1 Refusal
 
-abbrev pub v1 : String → String → AskV1 → LetterRow
+abbrev pub v1 : String → String → Result RequestV1 Refusal → LetterRow
 v1 letter text ask = record { letter = bytes letter; text = bytes text; ask = ask }
 
 abbrev pub letter_table : List LetterRow
 letter_table =
-    v1 "M" "" (Asks Measure)
-    ∷ v1 "M" "1" (Refused 10)
-    ∷ v1 "M" "a" (Refused 10)
-    ∷ v1 "M" "000001" (Refused 10)
-    ∷ v1 "C" "1" (Asks ReadFactor)
-    ∷ v1 "C" "0" (Refused 11)
-    ∷ v1 "C" "2" (Refused 11)
-    ∷ v1 "C" "9" (Refused 11)
-    ∷ v1 "C" "" (Refused 10)
-    ∷ v1 "C" "a" (Refused 10)
-    ∷ v1 "C" "01" (Refused 10)
-    ∷ v1 "C" "000100" (Refused 10)
-    ∷ v1 "c" "1" (Asks Unlock)
-    ∷ v1 "c" "0" (Refused 11)
-    ∷ v1 "c" "2" (Refused 11)
-    ∷ v1 "c" "9" (Refused 11)
-    ∷ v1 "c" "" (Refused 10)
-    ∷ v1 "c" "a" (Refused 10)
-    ∷ v1 "c" "01" (Refused 10)
-    ∷ v1 "c" "00100" (Refused 10)
-    ∷ v1 "c" "00010x" (Refused 10)
-    ∷ v1 "c" "0000100" (Refused 10)
-    ∷ v1 "c" "000000" (Asks (SetFactor 0))
-    ∷ v1 "c" "000019" (Asks (SetFactor 19))
-    ∷ v1 "c" "000020" (Asks (SetFactor 20))
-    ∷ v1 "c" "000800" (Asks (SetFactor 800))
-    ∷ v1 "c" "000801" (Asks (SetFactor 801))
-    ∷ v1 "c" "001200" (Asks (SetFactor 1200))
-    ∷ v1 "c" "999999" (Asks (SetFactor 999999))
-    ∷ v1 "U" "" (Asks ReadUnit)
-    ∷ v1 "U" "1" (Refused 10)
-    ∷ v1 "U" "a" (Refused 10)
-    ∷ v1 "U" "000001" (Refused 10)
-    ∷ v1 "u" "000000" (Asks (SetUnit Mbar))
-    ∷ v1 "u" "000001" (Asks (SetUnit Torr))
-    ∷ v1 "u" "000002" (Asks (SetUnit HPa))
-    ∷ v1 "u" "000003" (Refused 11)
-    ∷ v1 "u" "001000" (Refused 11)
-    ∷ v1 "u" "100000" (Refused 11)
-    ∷ v1 "u" "" (Refused 10)
-    ∷ v1 "u" "1" (Refused 10)
-    ∷ v1 "u" "00001" (Refused 10)
-    ∷ v1 "u" "00000a" (Refused 10)
-    ∷ v1 "u" "0000001" (Refused 10)
+    v1 "M" "" (Ok Measure)
+    ∷ v1 "M" "1" (Err Refusal.Syntax)
+    ∷ v1 "M" "a" (Err Refusal.Syntax)
+    ∷ v1 "M" "000001" (Err Refusal.Syntax)
+    ∷ v1 "C" "1" (Ok ReadFactor)
+    ∷ v1 "C" "0" (Err Refusal.Range)
+    ∷ v1 "C" "2" (Err Refusal.Range)
+    ∷ v1 "C" "9" (Err Refusal.Range)
+    ∷ v1 "C" "" (Err Refusal.Syntax)
+    ∷ v1 "C" "a" (Err Refusal.Syntax)
+    ∷ v1 "C" "01" (Err Refusal.Syntax)
+    ∷ v1 "C" "000100" (Err Refusal.Syntax)
+    ∷ v1 "c" "1" (Ok Unlock)
+    ∷ v1 "c" "0" (Err Refusal.Range)
+    ∷ v1 "c" "2" (Err Refusal.Range)
+    ∷ v1 "c" "9" (Err Refusal.Range)
+    ∷ v1 "c" "" (Err Refusal.Syntax)
+    ∷ v1 "c" "a" (Err Refusal.Syntax)
+    ∷ v1 "c" "01" (Err Refusal.Syntax)
+    ∷ v1 "c" "00100" (Err Refusal.Syntax)
+    ∷ v1 "c" "00010x" (Err Refusal.Syntax)
+    ∷ v1 "c" "0000100" (Err Refusal.Syntax)
+    ∷ v1 "c" "000000" (Ok (SetFactor 0))
+    ∷ v1 "c" "000019" (Ok (SetFactor 19))
+    ∷ v1 "c" "000020" (Ok (SetFactor 20))
+    ∷ v1 "c" "000800" (Ok (SetFactor 800))
+    ∷ v1 "c" "000801" (Ok (SetFactor 801))
+    ∷ v1 "c" "001200" (Ok (SetFactor 1200))
+    ∷ v1 "c" "999999" (Ok (SetFactor 999999))
+    ∷ v1 "U" "" (Ok ReadUnit)
+    ∷ v1 "U" "1" (Err Refusal.Syntax)
+    ∷ v1 "U" "a" (Err Refusal.Syntax)
+    ∷ v1 "U" "000001" (Err Refusal.Syntax)
+    ∷ v1 "u" "000000" (Ok (SetUnit Mbar))
+    ∷ v1 "u" "000001" (Ok (SetUnit Torr))
+    ∷ v1 "u" "000002" (Ok (SetUnit HPa))
+    ∷ v1 "u" "000003" (Err Refusal.Range)
+    ∷ v1 "u" "001000" (Err Refusal.Range)
+    ∷ v1 "u" "100000" (Err Refusal.Range)
+    ∷ v1 "u" "" (Err Refusal.Syntax)
+    ∷ v1 "u" "1" (Err Refusal.Syntax)
+    ∷ v1 "u" "00001" (Err Refusal.Syntax)
+    ∷ v1 "u" "00000a" (Err Refusal.Syntax)
+    ∷ v1 "u" "0000001" (Err Refusal.Syntax)
     -- no other letter, in either case
-    ∷ v1 "m" "" (Refused 8)
-    ∷ v1 "T" "" (Refused 8)
-    ∷ v1 "A" "1" (Refused 8)
-    ∷ v1 "z" "000001" (Refused 8)
+    ∷ v1 "m" "" (Err Refusal.NoDef)
+    ∷ v1 "T" "" (Err Refusal.NoDef)
+    ∷ v1 "A" "1" (Err Refusal.NoDef)
+    ∷ v1 "z" "000001" (Err Refusal.NoDef)
     ∷ []
 
-abbrev pub letter_asks : LetterRow → AskV1
+abbrev pub letter_asks : LetterRow → Result RequestV1 Refusal
 letter_asks r = ask_v1 (at r.letter 0) r.text
 
-abbrev pub letter_printed : LetterRow → AskV1
+abbrev pub letter_printed : LetterRow → Result RequestV1 Refusal
 letter_printed r = r.ask

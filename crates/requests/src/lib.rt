@@ -1,14 +1,16 @@
 #![tactic(auto)]
 // Requests to the text gauge (document 01, "Settings and readings, V2" and "V1 on the same settings"): what a frame asks, whatever the
 // gauge's state.
-ghost use Rattle.std.specs.Prelude.{◌≡◌, []};
-ghost use Rattle.sources.specs.Source.{list_of, Counted};
+ghost use Rattle.std.specs.Prelude.{◌≡◌};
 ghost use Rattle.settings.specs.Limits.{limits_of};
 ghost use Rattle.requests.specs.Command.{command_of, command_text, is_access, can_write, can_restore, lacks_access};
 ghost use Rattle.requests.specs.AskV2.{set_of, AsksV2, Writes};
 ghost use Rattle.requests.specs.AskV1.{six_digits, bare_of, one_of, unit_at, ask_v1};
-ghost use Rattle.requests.specs.declared.AskV2.{AskV2};
 ghost use Rattle.requests.specs.declared.Command.{Command};
+
+use refusals::Refusal;
+use settings::{Key, Setting};
+use sources::WithSources;
 
 // ---- V2
 
@@ -19,7 +21,7 @@ pub enum Command {
     T2,
     FN,
     FS,
-    Of(settings::Key),
+    Of(Key),
 }
 
 // A V2 request. SM's list of sources stands beside it.
@@ -27,209 +29,137 @@ pub enum Command {
 pub enum RequestV2 {
     Read(Command),
     Restore(Command),
-    Set(settings::Setting),
-}
-
-// What a V2 frame asks, or the refusal's number.
-#[derive(Clone, Copy)]
-pub enum AskV2 {
-    Asks(RequestV2),
-    Refused(u8),
-}
-
-// What a V2 frame asks, and beside it the sources of an accepted write of SM.
-#[derive(Clone, Copy)]
-pub struct AskedV2 {
-    pub ask: AskV2,
-    pub sources: sources::Sources,
-}
-
-// A command by its two bytes.
-#[derive(Clone, Copy)]
-pub enum Named {
-    Known(Command),
-    Unknown,
+    Set(Setting),
 }
 
 // The command that two bytes name.
-pub fn command_of(first: u8, second: u8) -> Named
+#[tactic(auto, unfolding(crate::specs::Command::command_of, crate::specs::Command::find_command, crate::specs::Command::command_text, buffer::specs::Byte::same_text, buffer::specs::First::pick))]
+pub fn command_of(first: u8, second: u8) -> Option<Command>
     ensures { result ≡ command_of first second }
 {
-    match first as u16 * 256 + second as u16 {
-        // MV
-        19798 => Named::Known(Command::MV),
-        // T2
-        21554 => Named::Known(Command::T2),
-        // FN
-        17998 => Named::Known(Command::FN),
-        // FS
-        18003 => Named::Known(Command::FS),
-        // DA
-        17473 => Named::Known(Command::Of(settings::Key::DA)),
-        // DU
-        17493 => Named::Known(Command::Of(settings::Key::DU)),
-        // C1
-        17201 => Named::Known(Command::Of(settings::Key::C1)),
-        // CM
-        17229 => Named::Known(Command::Of(settings::Key::CM)),
-        // CC
-        17219 => Named::Known(Command::Of(settings::Key::CC)),
-        // FC
-        17987 => Named::Known(Command::Of(settings::Key::FC)),
-        // ST
-        21332 => Named::Known(Command::Of(settings::Key::ST)),
-        // SM
-        21325 => Named::Known(Command::Of(settings::Key::SM)),
-        _ => Named::Unknown,
+    match &[first, second] {
+        b"MV" => Some(Command::MV),
+        b"T2" => Some(Command::T2),
+        b"FN" => Some(Command::FN),
+        b"FS" => Some(Command::FS),
+        b"DA" => Some(Command::Of(Key::DA)),
+        b"DU" => Some(Command::Of(Key::DU)),
+        b"C1" => Some(Command::Of(Key::C1)),
+        b"CM" => Some(Command::Of(Key::CM)),
+        b"CC" => Some(Command::Of(Key::CC)),
+        b"FC" => Some(Command::Of(Key::FC)),
+        b"ST" => Some(Command::Of(Key::ST)),
+        b"SM" => Some(Command::Of(Key::SM)),
+        _ => None,
     }
 }
 
 // The two characters of a command.
+#[tactic(auto, unfolding(crate::specs::Command::command_text))]
 pub fn command_bytes(command: Command) -> [u8; 2]
     ensures { result ≡ command_text command }
 {
     match command {
-        Command::MV => [b'M', b'V'],
-        Command::T2 => [b'T', b'2'],
-        Command::FN => [b'F', b'N'],
-        Command::FS => [b'F', b'S'],
-        Command::Of(key) => key_bytes(key),
-    }
-}
-
-// The two characters of a setting's command.
-fn key_bytes(key: settings::Key) -> [u8; 2]
-    ensures { result ≡ command_text (Command.Of key) }
-{
-    match key {
-        settings::Key::DA => [b'D', b'A'],
-        settings::Key::DU => [b'D', b'U'],
-        settings::Key::C1 => [b'C', b'1'],
-        settings::Key::CM => [b'C', b'M'],
-        settings::Key::CC => [b'C', b'C'],
-        settings::Key::FC => [b'F', b'C'],
-        settings::Key::ST => [b'S', b'T'],
-        settings::Key::SM => [b'S', b'M'],
+        Command::MV => *b"MV",
+        Command::T2 => *b"T2",
+        Command::FN => *b"FN",
+        Command::FS => *b"FS",
+        Command::Of(Key::DA) => *b"DA",
+        Command::Of(Key::DU) => *b"DU",
+        Command::Of(Key::C1) => *b"C1",
+        Command::Of(Key::CM) => *b"CM",
+        Command::Of(Key::CC) => *b"CC",
+        Command::Of(Key::FC) => *b"FC",
+        Command::Of(Key::ST) => *b"ST",
+        Command::Of(Key::SM) => *b"SM",
     }
 }
 
 // Whether an access code is read, write or factory default.
+#[tactic(auto, unfolding(crate::specs::Command::is_access))]
 fn is_access(access: u8) -> bool
     ensures { result ≡ is_access access }
 {
-    if access == b'0' {
-        return true;
-    }
-    if access == b'2' {
-        return true;
-    }
-    access == b'4'
+    matches!(access, b'0' | b'2' | b'4')
 }
 
+#[tactic(auto, unfolding(crate::specs::Command::can_write))]
 fn can_write(command: Command) -> bool
     ensures { result ≡ can_write command }
 {
-    match command {
-        Command::MV => false,
-        Command::T2 => false,
-        Command::FN => false,
-        Command::FS => false,
-        Command::Of(_) => true,
-    }
+    matches!(command, Command::Of(_))
 }
 
+#[tactic(auto, unfolding(crate::specs::Command::can_restore))]
 fn can_restore(command: Command) -> bool
     ensures { result ≡ can_restore command }
 {
     match command {
-        Command::MV => false,
-        Command::T2 => false,
-        Command::FN => false,
-        Command::FS => false,
-        Command::Of(key) => match key {
-            settings::Key::SM => false,
-            settings::Key::DA => true,
-            settings::Key::DU => true,
-            settings::Key::C1 => true,
-            settings::Key::CM => true,
-            settings::Key::CC => true,
-            settings::Key::FC => true,
-            settings::Key::ST => true,
-        },
+        Command::MV | Command::T2 | Command::FN | Command::FS | Command::Of(Key::SM) => false,
+        Command::Of(_) => true,
     }
 }
 
 // Whether a command lacks an access.
+#[tactic(auto, unfolding(crate::specs::Command::lacks_access, buffer::specs::First::pick))]
 pub fn lacks_access(access: u8, command: Command) -> bool
     ensures { result ≡ lacks_access access command }
 {
-    if access == b'2' {
-        return !can_write(command);
-    }
-    if access == b'4' {
-        return !can_restore(command);
-    }
-    false
-}
-
-fn plain(ask: AskV2) -> AskedV2
-    ensures { (result.ask ≡ ask) × (list_of result.sources ≡ []) × Counted result.sources }
-{
-    AskedV2 {
-        ask,
-        sources: sources::Sources::NONE,
-    }
-}
-
-fn set_of(verdict: forms::Verdict) -> AskV2
-    ensures { result ≡ set_of verdict }
-{
-    match verdict {
-        forms::Verdict::Set(x) => AskV2::Asks(RequestV2::Set(x)),
-        forms::Verdict::Refused(k) => AskV2::Refused(k),
+    match access {
+        b'2' => !can_write(command),
+        b'4' => !can_restore(command),
+        _ => false,
     }
 }
 
 // A write of a command.
-fn write_of(profile: sources::Profile, command: Command, bytes: &[u8]) -> AskedV2
+#[tactic(auto, unfolding(crate::specs::AskV2::write_of, crate::specs::AskV2::write_list, crate::specs::AskV2::set_of))]
+fn write_of(
+    profile: sources::Profile,
+    command: Command,
+    bytes: &[u8],
+) -> WithSources<Result<RequestV2, Refusal>>
     ensures { Writes (limits_of profile) command bytes.now result }
 {
     let Command::Of(key) = command else {
-        return plain(AskV2::Refused(9));
+        return WithSources::alone(Err(Refusal::Access));
     };
     let judged = forms::judge(profile, key, bytes);
-    let verdict = judged.verdict;
-    let sources = judged.sources;
-    AskedV2 {
-        ask: set_of(verdict),
-        sources,
+    WithSources {
+        value: judged.value.map(RequestV2::Set),
+        sources: judged.sources,
     }
 }
 
-// What a V2 frame with this head and these data asks of a gauge of this profile.
-pub fn read_v2(profile: sources::Profile, head: frames::HeadV2, bytes: &[u8]) -> AskedV2
+// What a V2 frame with this head and these data asks of a gauge of this profile, and beside it the sources of an accepted write of SM.
+#[tactic(auto, unfolding(crate::specs::AskV2::ask_v2, crate::specs::AskV2::ask_list, crate::specs::AskV2::ask_named, crate::specs::AskV2::ask_known, crate::specs::AskV2::named_list, buffer::specs::First::pick))]
+pub fn read_v2(
+    profile: sources::Profile,
+    head: frames::HeadV2,
+    bytes: &[u8],
+) -> WithSources<Result<RequestV2, Refusal>>
     ensures { AsksV2 (limits_of profile) head bytes.now result }
 {
     let access = head.access;
     if !is_access(access) {
-        return plain(AskV2::Refused(7));
+        return WithSources::alone(Err(Refusal::Code));
     }
-    let Named::Known(command) = command_of(head.first, head.second) else {
-        return plain(AskV2::Refused(8));
+    let Some(command) = command_of(head.first, head.second) else {
+        return WithSources::alone(Err(Refusal::NoDef));
     };
     if lacks_access(access, command) {
-        return plain(AskV2::Refused(9));
+        return WithSources::alone(Err(Refusal::Access));
     }
     if access == b'2' {
         return write_of(profile, command, bytes);
     }
     if bytes.len() != 0 {
-        return plain(AskV2::Refused(10));
+        return WithSources::alone(Err(Refusal::Syntax));
     }
     if access == b'4' {
-        return plain(AskV2::Asks(RequestV2::Restore(command)));
+        return WithSources::alone(Ok(RequestV2::Restore(command)));
     }
-    plain(AskV2::Asks(RequestV2::Read(command)))
+    WithSources::alone(Ok(RequestV2::Read(command)))
 }
 
 // ---- V1
@@ -251,14 +181,8 @@ pub enum RequestV1 {
     SetUnit(settings::PressureUnit),
 }
 
-// What a V1 frame asks, or the refusal's number.
-#[derive(Clone, Copy)]
-pub enum AskV1 {
-    Asks(RequestV1),
-    Refused(u8),
-}
-
 // Whether a text is six digits.
+#[tactic(auto, unfolding(crate::specs::AskV1::six_digits))]
 pub fn has_six_digits(s: &[u8]) -> bool
     ensures { result ≡ six_digits s.now }
 {
@@ -269,60 +193,51 @@ pub fn has_six_digits(s: &[u8]) -> bool
 }
 
 // A request that has no data.
-fn bare(s: &[u8], request: RequestV1) -> AskV1
+#[tactic(auto, unfolding(crate::specs::AskV1::bare_of, buffer::specs::First::pick))]
+fn bare(s: &[u8], request: RequestV1) -> Result<RequestV1, Refusal>
     ensures { result ≡ bare_of s.now request }
 {
     if s.len() != 0 {
-        return AskV1::Refused(10);
+        return Err(Refusal::Syntax);
     }
-    AskV1::Asks(request)
+    Ok(request)
 }
 
 // A request whose data are the digit 1.
-fn with_one(s: &[u8], request: RequestV1) -> AskV1
+#[tactic(auto, unfolding(crate::specs::AskV1::one_of, crate::specs::AskV1::digit_one, buffer::specs::First::pick))]
+fn with_one(s: &[u8], request: RequestV1) -> Result<RequestV1, Refusal>
     ensures { result ≡ one_of s.now request }
 {
-    match forms::judge_digit(s, 9) {
-        forms::Digit::Is(d) => {
-            if d != 1 {
-                return AskV1::Refused(11);
-            }
-            AskV1::Asks(request)
-        }
-        forms::Digit::Refused(k) => AskV1::Refused(k),
+    let d = forms::judge_digit(s, 9)?;
+    if d != 1 {
+        return Err(Refusal::Range);
     }
+    Ok(request)
 }
 
 // `u`: the unit that a number names.
-fn unit_at(n: u32) -> AskV1
+fn unit_at(n: u32) -> Result<RequestV1, Refusal>
     ensures { result ≡ unit_at n }
 {
     match settings::unit_named(n) {
-        settings::NamedUnit::Unit(u) => AskV1::Asks(RequestV1::SetUnit(u)),
-        settings::NamedUnit::None => AskV1::Refused(11),
+        Some(unit) => Ok(RequestV1::SetUnit(unit)),
+        None => Err(Refusal::Range),
     }
 }
 
 // What a V1 frame with this letter and these data asks.
-pub fn read_v1(letter: u8, bytes: &[u8]) -> AskV1
+#[tactic(auto, using(crate::proofs::Laws::six_whole), unfolding(crate::specs::AskV1::ask_v1, buffer::specs::First::pick))]
+pub fn read_v1(letter: u8, bytes: &[u8]) -> Result<RequestV1, Refusal>
     ensures { result ≡ ask_v1 letter bytes.now }
 {
     match letter {
         b'M' => bare(bytes, RequestV1::Measure),
         b'C' => with_one(bytes, RequestV1::ReadFactor),
-        b'c' => {
-            if has_six_digits(bytes) {
-                return AskV1::Asks(RequestV1::SetFactor(buffer::numeral_of(bytes)));
-            }
-            with_one(bytes, RequestV1::Unlock)
-        }
+        b'c' if has_six_digits(bytes) => Ok(RequestV1::SetFactor(buffer::numeral_of(bytes))),
+        b'c' => with_one(bytes, RequestV1::Unlock),
         b'U' => bare(bytes, RequestV1::ReadUnit),
-        b'u' => {
-            if has_six_digits(bytes) {
-                return unit_at(buffer::numeral_of(bytes));
-            }
-            AskV1::Refused(10)
-        }
-        _ => AskV1::Refused(8),
+        b'u' if has_six_digits(bytes) => unit_at(buffer::numeral_of(bytes)),
+        b'u' => Err(Refusal::Syntax),
+        _ => Err(Refusal::NoDef),
     }
 }

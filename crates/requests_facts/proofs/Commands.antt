@@ -2,6 +2,7 @@
 use mathlib.Core.Path.{◌≡◌, refl}
 use mathlib.Core.List.{List, [], ◌∷◌}
 use Prim.Native.Nat.{ℕ}
+use Rattle.std.specs.Prelude.{None, Option, Some}
 use Rattle.buffer.specs.First.{pick}
 use Rattle.buffer.specs.Byte.{same_text}
 use Rattle.buffer.proofs.Laws.{same_equal}
@@ -10,22 +11,20 @@ use Rattle.settings.specs.declared.Key.TheVariants.{DA, DU, C1, CM, CC, FC, ST, 
 use Rattle.requests.specs.Command.{commands, find_command, command_of, command_text}
 use Rattle.requests.specs.declared.Command.{Command}
 use Rattle.requests.specs.declared.Command.TheVariants.{MV, T2, FN, FS, Of}
-use Rattle.requests.specs.declared.Named.{Named}
-use Rattle.requests.specs.declared.Named.TheVariants.{Known, Unknown}
 use Rattle.requests_facts.specs.Theorems.{NamedExactly}
 
 -- a text spells the command that it names
-abbrev Spells : List ℕ → Named → Type 0
-Spells t (Known c) = t ≡ command_text c
-Spells t Unknown = Unit {0}
+abbrev Spells : List ℕ → Option Command → Type 0
+Spells t (Some c) = t ≡ command_text c
+Spells t None = Unit {0}
 
 spells : (cs : List Command) (t : List ℕ) → Spells t (find_command cs t)
 unfolding find_command
 spells [] t = tt
-spells (c ∷ cs) t = each (Spells t) (same_text t (command_text c)) (Known c) (find_command cs t) (same_equal t (command_text c)) (λ _. spells cs t)
+spells (c ∷ cs) t = each (Spells t) (same_text t (command_text c)) (Some c) (find_command cs t) (same_equal t (command_text c)) (λ _. spells cs t)
 
 -- each command is found by its text
-found : (c : Command) → find_command commands (command_text c) ≡ Known c
+found : (c : Command) → find_command commands (command_text c) ≡ Some c
 unfolding find_command command_text same_text pick
 found MV = refl
 found T2 = refl

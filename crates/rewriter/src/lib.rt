@@ -6,24 +6,27 @@ ghost use Rattle.opg_request_reader.specs.Asked.{asked_of};
 ghost use Rattle.settings.specs.Limits.{limits_of};
 ghost use Rattle.rewriter.specs.Again.{text_again, opg_again, Rewritten};
 
-use opg_request_reader::Asked;
+use opg_request_reader::Denied;
+use refusals::Refusal;
 use request_reader::Request;
+use sources::WithSources;
 
 // Writes a request that was read, or hands on the refusal.
+#[tactic(auto, unfolding(crate::specs::Again::text_again))]
 fn write_text_again(
     profile: sources::Profile,
     out: &mut [u8],
-    d: request_reader::Decoded,
+    d: WithSources<Result<Request, Refusal>>,
 ) -> buffer::Written
-    ensures { Sent out.old (text_again (limits_of profile) (length out.old) d.request d.sources) out.new result }
+    ensures { Sent out.old (text_again (limits_of profile) (length out.old) d.value d.sources) out.new result }
 {
-    let request = d.request;
-    let q = d.sources;
-    match request {
-        Request::V1(address, r) => request_writer::write_request_v1(out, address, r),
-        Request::V2(address, r) => request_writer::write_request_v2(out, profile, address, r, q),
-        Request::Refused(k) => buffer::Written {
-            number: k as u16,
+    match d.value {
+        Ok(Request::V1(address, r)) => request_writer::write_request_v1(out, address, r),
+        Ok(Request::V2(address, r)) => request_writer::write_request_v2(
+            out, profile, address, r, d.sources,
+        ),
+        Err(k) => buffer::Written {
+            number: k.number() as u16,
             len: 0,
         },
     }
@@ -38,19 +41,16 @@ pub fn rewrite_text(profile: sources::Profile, request: &[u8], out: &mut [u8]) -
 }
 
 // Writes an OPG request that was read, or hands on the refusal.
-fn write_opg_again(out: &mut [u8], asked: Asked) -> buffer::Written
+#[tactic(auto, unfolding(crate::specs::Again::opg_again))]
+fn write_opg_again(out: &mut [u8], asked: Result<opg_commands::Request, Denied>) -> buffer::Written
     ensures { Sent out.old (opg_again (length out.old) asked) out.new result }
 {
     match asked {
-        Asked::Silent(k) => buffer::Written {
-            number: k as u16,
+        Ok(r) => opg_request_writer::write_request(out, r),
+        Err(denied) => buffer::Written {
+            number: denied.number(),
             len: 0,
         },
-        Asked::Error(e) => buffer::Written {
-            number: 1000 + (e as u16),
-            len: 0,
-        },
-        Asked::Accepted(r) => opg_request_writer::write_request(out, r),
     }
 }
 

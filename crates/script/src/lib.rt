@@ -13,6 +13,10 @@ ghost use Rattle.std.specs.Prelude.{◌≡◌, ◌<◌, ◌≤◌, length};
 ghost use Rattle.buffer.specs.Byte.{pair_of};
 ghost use Rattle.script.specs.Script.{request_of, line_of, exact_at, setting_of, pressure_of, call_of, call_at, Fits};
 
+use decimal::Exact;
+use opg_gauge::Pressure;
+use readings::Bench;
+
 // The gauge that a request is for.
 #[derive(Clone, Copy)]
 pub enum To {
@@ -27,10 +31,8 @@ pub enum Call {
     Request(To, usize, usize),
     // how many bytes are lent
     Line(usize),
-    SetBench(readings::Bench),
-    SetOpgBench(opg_gauge::Pressure),
-    // no whole call
-    End,
+    SetBench(Bench),
+    SetOpgBench(Pressure),
 }
 
 // The number of two bytes.
@@ -38,39 +40,42 @@ fn pair(high: u8, low: u8) -> usize
     ensures value { result ≡ pair_of high low }
     ensures upper_bound { result < 65536 }
 {
-    (high as usize) * 256 + (low as usize)
+    usize::from(u16::from_be_bytes([high, low]))
 }
 
-fn request_of(to: To, s: &[u8]) -> Call
+#[tactic(auto, unfolding(crate::specs::Script::request_of, buffer::specs::First::pick))]
+fn request_of(to: To, s: &[u8]) -> Option<Call>
     ensures value { result ≡ request_of to s.now }
     ensures fits { Fits (length s.now) 0 result }
 {
     if s.len() < 5 {
-        return Call::End;
+        return None;
     }
     let room = pair(s[1], s[2]);
     let len = pair(s[3], s[4]);
     if s.len() - 5 < len {
-        return Call::End;
+        return None;
     }
-    Call::Request(to, room, len)
+    Some(Call::Request(to, room, len))
 }
 
-fn line_of(s: &[u8]) -> Call
+#[tactic(auto, unfolding(crate::specs::Script::line_of, buffer::specs::First::pick))]
+fn line_of(s: &[u8]) -> Option<Call>
     ensures value { result ≡ line_of s.now }
     ensures fits { Fits (length s.now) 0 result }
 {
     if s.len() < 3 {
-        return Call::End;
+        return None;
     }
-    Call::Line(pair(s[1], s[2]))
+    Some(Call::Line(pair(s[1], s[2])))
 }
 
-fn value_of(s: &[u8]) -> decimal::Exact
+#[tactic(auto, unfolding(crate::specs::Script::exact_at))]
+fn value_of(s: &[u8]) -> Exact
     requires { 10 ≤ length s.now }
     ensures { result ≡ exact_at s.now }
 {
-    decimal::Exact {
+    Exact {
         negative: s[3] != 0,
         digits: buffer::word(s[4], s[5], s[6], s[7]),
         up: s[8],
@@ -78,79 +83,60 @@ fn value_of(s: &[u8]) -> decimal::Exact
     }
 }
 
-fn setting_of(s: &[u8]) -> Call
+#[tactic(auto, unfolding(crate::specs::Script::setting_of, buffer::specs::First::pick))]
+fn setting_of(s: &[u8]) -> Option<Call>
     ensures value { result ≡ setting_of s.now }
     ensures fits { Fits (length s.now) 0 result }
 {
     if s.len() < 10 {
-        return Call::End;
+        return None;
     }
-    let which = s[1];
     let code = s[2];
-    if which == 0 {
-        return Call::SetBench(readings::Bench::Reads(code, value_of(s)));
-    }
-    if which == 1 {
-        return Call::SetBench(readings::Bench::UnderRange(code));
-    }
-    if which == 2 {
-        return Call::SetBench(readings::Bench::OverRange(code));
-    }
-    if which == 3 {
-        return Call::SetBench(readings::Bench::Faulty(code));
-    }
-    if which == 4 {
-        return Call::SetBench(readings::Bench::Status(code));
-    }
-    Call::End
+    let bench = match s[1] {
+        0 => Bench::Reads(code, value_of(s)),
+        1 => Bench::UnderRange(code),
+        2 => Bench::OverRange(code),
+        3 => Bench::Faulty(code),
+        4 => Bench::Status(code),
+        _ => return None,
+    };
+    Some(Call::SetBench(bench))
 }
 
-fn pressure_of(s: &[u8]) -> Call
+#[tactic(auto, unfolding(crate::specs::Script::pressure_of, buffer::specs::First::pick))]
+fn pressure_of(s: &[u8]) -> Option<Call>
     ensures value { result ≡ pressure_of s.now }
     ensures fits { Fits (length s.now) 0 result }
 {
     if s.len() < 6 {
-        return Call::End;
+        return None;
     }
-    let which = s[1];
-    if which == 0 {
-        return Call::SetOpgBench(opg_gauge::Pressure::Bits(buffer::word(s[2], s[3], s[4], s[5])));
-    }
-    if which == 1 {
-        return Call::SetOpgBench(opg_gauge::Pressure::Unavailable);
-    }
-    Call::End
+    let pressure = match s[1] {
+        0 => Pressure::Bits(buffer::word(s[2], s[3], s[4], s[5])),
+        1 => Pressure::Unavailable,
+        _ => return None,
+    };
+    Some(Call::SetOpgBench(pressure))
 }
 
 // The call at the front of s.
-fn call_of(s: &[u8]) -> Call
+#[tactic(auto, unfolding(crate::specs::Script::call_of, buffer::specs::First::pick))]
+fn call_of(s: &[u8]) -> Option<Call>
     ensures value { result ≡ call_of s.now }
     ensures fits { Fits (length s.now) 0 result }
 {
-    if s.len() < 1 {
-        return Call::End;
+    match *s.first()? {
+        0 => request_of(To::Text, s),
+        1 => line_of(s),
+        2 => setting_of(s),
+        3 => request_of(To::Opg, s),
+        4 => pressure_of(s),
+        _ => None,
     }
-    let kind = s[0];
-    if kind == 0 {
-        return request_of(To::Text, s);
-    }
-    if kind == 1 {
-        return line_of(s);
-    }
-    if kind == 2 {
-        return setting_of(s);
-    }
-    if kind == 3 {
-        return request_of(To::Opg, s);
-    }
-    if kind == 4 {
-        return pressure_of(s);
-    }
-    Call::End
 }
 
-// The call at place `at` of the script.
-pub fn call_at(script: &[u8], at: usize) -> Call
+// The call at place `at` of the script, if a whole one stands there.
+pub fn call_at(script: &[u8], at: usize) -> Option<Call>
     ensures value { result ≡ call_at script.now at }
     ensures fits { Fits (length script.now) at result }
 {

@@ -1,4 +1,3 @@
 #![tactic(auto)]
-// The words of a script's line: numbers, bytes in hex, and rows of a table that say which words belong together.
-pub mod row;
+// The words of a script's line, with the numbers and the bytes in hex that they stand for.
 pub mod word;

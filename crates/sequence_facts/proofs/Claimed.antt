@@ -7,6 +7,7 @@ use Prim.Native.Nat.{ℕ, ◌≤◌}
 use borrow.Author.Tests.{eq-eqb, eqb-true}
 use lib.Dec.{eqb}
 use lib.ListN.{length}
+use Rattle.std.specs.Prelude.{None, Option, Some}
 use Rattle.buffer.specs.First.{pick}
 use Rattle.buffer.specs.Byte.{at, within}
 use Rattle.buffer.specs.Answer.{Answer, Sent}
@@ -25,8 +26,6 @@ use Rattle.settings.specs.declared.Key.{Key}
 use Rattle.readings.specs.Bench.{bench_number}
 use Rattle.readings.specs.declared.Bench.{Bench}
 use Rattle.readings.specs.declared.Readings.{Readings}
-use Rattle.readings.specs.declared.Benched.{Benched}
-use Rattle.readings.specs.declared.Benched.TheVariants as bench
 use Rattle.readings.specs.Place.{Place, code_of, reading_at}
 use Rattle.readings.specs.There.{names}
 use Rattle.line.specs.Line.{line_answer}
@@ -55,6 +54,7 @@ use Rattle.sequence_facts.proofs.Lemmas.Requests.{v2_says, v1_says}
 use Rattle.sequence_facts.proofs.Lemmas.Readings.{accepted_stands}
 use Rattle.sequence_facts.proofs.Lemmas.Unlock.{unlock_is}
 use Rattle.sequence_facts.proofs.Lemmas.Line.{sent_bytes, listed_places, line_shown, line_few}
+use Rattle.readings.specs.declared.Reading.{Reading}
 
 -- ---- one request, on what the model holds
 
@@ -95,20 +95,20 @@ module _ (m : State) where
   unfolding benched or_else pick
   reading_set p o b f = go (bench_in m.limits b) refl
     where
-      go : (x : Benched) → bench_in m.limits b ≡ x
+      go : (x : Option Reading) → bench_in m.limits b ≡ x
           → Stands p (or_else (pick (eqb (bench_number x) 0 && same_code (names b) (code_of p)) (some (handed b)) none) o) (reading_at p (benched m x).readings)
-      go (bench.Accepted x) e = accepted_stands p o m.readings b x ((bench_exactly m.limits b x).0 e).1 f
-      go bench.Refused e = f
+      go (Some x) e = accepted_stands p o m.readings b x ((bench_exactly m.limits b x).0 e).1 f
+      go None e = f
 
-  settings_stay : (x : Benched) → (benched m x).settings ≡ m.settings
+  settings_stay : (x : Option Reading) → (benched m x).settings ≡ m.settings
   unfolding benched
-  settings_stay (bench.Accepted x) = refl
-  settings_stay bench.Refused = refl
+  settings_stay (Some x) = refl
+  settings_stay None = refl
 
-  unlock_stays : (x : Benched) → (benched m x).unlocked ≡ m.unlocked
+  unlock_stays : (x : Option Reading) → (benched m x).unlocked ≡ m.unlocked
   unfolding benched
-  unlock_stays (bench.Accepted x) = refl
-  unlock_stays bench.Refused = refl
+  unlock_stays (Some x) = refl
+  unlock_stays None = refl
 
 -- ---- the sequence
 

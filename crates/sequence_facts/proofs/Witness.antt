@@ -19,8 +19,9 @@ use Rattle.buffer.specs.declared.Written.{Written}
 use Rattle.gauge_rules.specs.State.{State, state_of, settled}
 use Rattle.gauge_rules.specs.BenchIn.{bench_in}
 use Rattle.text_gauge.specs.Answer.{Answers, Benches}
-use Rattle.text_gauge.specs.declared.Answered.{Answered}
-use Rattle.text_gauge.specs.declared.BenchAnswer.{BenchAnswer}
+use Rattle.buffer.specs.declared.Answered.{Answered}
+use Rattle.gauge_rules.specs.declared.Gauge.{Gauge}
+use Rattle.buffer.specs.declared.BenchAnswer.{BenchAnswer}
 use Rattle.gauge_facts.specs.Sound.{SoundState}
 use Rattle.gauge_facts.proofs.Profile.{profile_stays}
 use Rattle.gauge_facts.proofs.Kept.{fresh_sound, next_sound, bench_sound}
@@ -87,14 +88,14 @@ module _ (p : Profile) where
       let m = model limits (play limits cs) in
       let n = next_of m (length before) s in
       let a = tableAnswer m (length before) s in
-      let r : Answered = record { gauge = gauge_of p n; written = written a } in
+      let r : Answered Gauge = record { gauge = gauge_of p n; written = written a } in
       ask {r = r} (had cs)
       (subst (λ (x : State). Answers x s before (over a.reply before) r) (sym (back cs))
       (record { sent = record { number = refl; len = refl; memory = refl }; state = back (asks s before ∷ cs) }))
   had (tells b ∷ cs) =
       let m = model limits (play limits cs) in
       let n = benched m (bench_in m.limits b) in
-      let r : BenchAnswer = record { gauge = gauge_of p n; number = bench_number (bench_in m.limits b) } in
+      let r : BenchAnswer Gauge = record { gauge = gauge_of p n; number = bench_number (bench_in m.limits b) } in
       set_bench {r = r} (had cs)
       (subst (λ (x : State). Benches x b r) (sym (back cs))
       (record { number = refl; state = back (tells b ∷ cs) }))

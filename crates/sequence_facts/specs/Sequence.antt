@@ -29,8 +29,8 @@ use Rattle.gauge_rules.specs.BenchIn.{bench_in}
 use Rattle.gauge_table.specs.Asked.{is_v1}
 use Rattle.gauge_table.specs.After.{answer_of}
 use Rattle.text_gauge.specs.Answer.{Answers, Benches}
-use Rattle.text_gauge.specs.declared.Answered.{Answered}
-use Rattle.text_gauge.specs.declared.BenchAnswer.{BenchAnswer}
+use Rattle.buffer.specs.declared.Answered.{Answered}
+use Rattle.buffer.specs.declared.BenchAnswer.{BenchAnswer}
 use Rattle.gauge_facts.specs.Sound.{SoundState}
 use Rattle.history.specs.Latest.{Each, latest}
 use Rattle.sequence_facts.specs.Model.{Fed, request, bench, line, model_of}
@@ -63,9 +63,9 @@ model limits h = model_of limits (map fed h)
 -- nobody else changes it." It starts with the limits of its profile. Of a call nothing is known but its contract, word for word.
 pub data Trace (limits : ProfileLimits) : History → Gauge → Type 0 where
   begin : {g : Gauge} → state_of g ≡ fresh limits → Trace limits [] g
-  ask : {h : History} {g : Gauge} {s before after : List ℕ} {r : Answered} → Trace limits h g → Answers (state_of g) s before after r
+  ask : {h : History} {g : Gauge} {s before after : List ℕ} {r : Answered Gauge} → Trace limits h g → Answers (state_of g) s before after r
       → Trace limits (asked s before r.written.number r.written.len after ∷ h) r.gauge
-  set_bench : {h : History} {g : Gauge} {b : Bench} {r : BenchAnswer} → Trace limits h g → Benches (state_of g) b r → Trace limits (bench_set b r.number ∷ h) r.gauge
+  set_bench : {h : History} {g : Gauge} {b : Bench} {r : BenchAnswer Gauge} → Trace limits h g → Benches (state_of g) b r → Trace limits (bench_set b r.number ∷ h) r.gauge
   show : {h : History} {g : Gauge} {before after : List ℕ} {w : Written} → Trace limits h g
       → Sent before (line_answer (state_of g).limits (length before) (held g.settings) g.readings) after w → Trace limits (lined before w.number w.len after ∷ h) g
 

@@ -1,6 +1,6 @@
 -- What the bytes of an accepted request write or restore, from the bytes alone: the access code, the command's two characters or V1's letter, and
 -- what the data spell. No reader of requests or of a setting's data is used here.
-use Rattle.std.specs.Prelude.{Bool, true, false, cond, ◌&&◌, List, [], ◌∷◌, ℕ, ◌+◌, ◌-◌, ◌/◌, ◌^◌, eqb, length, take, drop}
+use Rattle.std.specs.Prelude.{Bool, true, false, cond, ◌&&◌, List, [], ◌∷◌, ℕ, ◌+◌, ◌-◌, ◌/◌, ◌^◌, eqb, length, take, drop, Err, Ok, Result}
 use Rattle.std.proofs.Math.Option.{Option, none, some}
 use Rattle.buffer.specs.First.{◌⇒◌, first, pick}
 use Rattle.buffer.specs.Byte.{at, same_text, until_of, numeral}
@@ -9,8 +9,6 @@ use Rattle.frames.specs.Frame.{data_from}
 use Rattle.decimal.specs.Exact.{units, zero_number}
 use Rattle.decimal.specs.Form.{number_of}
 use Rattle.decimal.specs.declared.Number.{Number}
-use Rattle.decimal.specs.declared.Parsed.{Parsed}
-use Rattle.decimal.specs.declared.Parsed.TheVariants as parsed
 use Rattle.settings.specs.Limits.{ProfileLimits}
 use Rattle.settings.specs.Settings.{Held, factory}
 use Rattle.settings.specs.declared.PressureUnit.TheVariants.{Mbar, Torr, HPa}
@@ -19,6 +17,7 @@ use Rattle.settings.specs.declared.Key.{Key}
 use Rattle.settings.specs.declared.Key.TheVariants.{DA, DU, C1, CM, CC, FC, ST, SM}
 use Rattle.settings.specs.declared.Setting.{Setting}
 use Rattle.settings.specs.declared.Setting.TheVariants.{Address, PressureIn, Factor, Control, Cathode, Filament, Switch, Stream}
+use Rattle.decimal.specs.declared.NumberError.{NumberError}
 
 -- what a setting holds: its value, and SM's list beside it
 abbrev pub Value : Type 0
@@ -41,10 +40,9 @@ plain x = some (x, [])
 -- ---- V2: the data d of an accepted write
 
 -- the number that a text is; zero where it is none
-unfoldable pub number_in : Parsed → Number
-number_in (parsed.Value n) = n
-number_in parsed.Syntax = zero_number
-number_in parsed.Range = zero_number
+unfoldable pub number_in : Result Number NumberError → Number
+number_in (Ok n) = n
+number_in (Err e) = zero_number
 
 -- DU: "`mbar`, `Torr`, `hPa`"
 unfoldable pub unit_named : List ℕ → Option Value

@@ -5,8 +5,10 @@ use Prim.Native.Nat.{ℕ, zero, suc, ◌+◌, ◌-◌, ◌≤◌, min}
 use native.Mathlib.Nat.{add-sub_cancel_left}
 use native.Mathlib.Omega.{arith}
 use lib.ListN.{length, take, drop, length-take, length-drop, drop_of_length-le}
-use Rattle.buffer.specs.Answer.{over, Stored}
-use Rattle.buffer.proofs.Laws.{part_middle, whole, front}
+use Rattle.std.specs.List.{copy_within}
+use native.Mathlib.Nat.{zero-add}
+use Rattle.buffer.specs.Answer.{over}
+use Rattle.buffer.proofs.Laws.{part_middle}
 use Rattle.service.specs.Served.{most_kept, kept_of, Keeps}
 
 -- how many bytes are kept
@@ -37,11 +39,10 @@ none_kept memory from to h = record { len = rw e; memory = rw e }
     e : kept_of memory from to ≡ []
     e = ap (take most_kept) (drop_of_length-le (take to memory) {i = from} (simp length-take h))
 
--- two stores by way of other memory move them
-pub moved : (memory room held memory' : List ℕ) (from to n : ℕ) → n ≡ count_of memory from to → length room ≡ most_kept
-    → Stored room 0 (take (from + n - from) (drop from memory)) held → Stored memory 0 (take n held) memory' → Keeps memory from to memory' n
-moved memory room held memory' from to n e l f g =
-    let part : take (from + n - from) (drop from memory) ≡ kept_of memory from to = rw (add-sub_cancel_left, e) (kept_is memory from to) in
+-- a copy of so many bytes to the front moves them
+pub moved : (memory memory' : List ℕ) (from to n : ℕ) → n ≡ count_of memory from to → memory' ≡ copy_within memory from (from + n) 0 → Keeps memory from to memory' n
+unfolding over
+moved memory memory' from to n e g =
+    let part : take n (drop from memory) ≡ kept_of memory from to = rw e (kept_is memory from to) in
     let size : n ≡ length (kept_of memory from to) = e ∙ sym (kept_length memory from to) in
-    let kept : take n held ≡ kept_of memory from to = front n (rw part at f) size (omega arith) in
-    record { len = size; memory = whole (rw kept at g) (omega arith) }
+    record { len = size; memory = g ∙ rw (add-sub_cancel_left, zero-add, part, size) }

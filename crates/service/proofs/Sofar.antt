@@ -161,6 +161,6 @@ abbrev pub gauge : Profile → Settings → Readings → Bool → State
 gauge p s r u = record { limits = limits_of p; settings = held s; readings = r; unlocked = u }
 
 -- the settings with what was decided, beside the readings as they were
-pub stored : (g₀ : State) (input out₀ : List ℕ) (at used : ℕ) (out : List ℕ) (p : Profile) (s s' : Settings) (r : Readings) (u : Bool) (d : Decided) → held s' ≡ changed_by (held s) d.change.put (list_of d.change.sources)
+pub stored : (g₀ : State) (input out₀ : List ℕ) (at used : ℕ) (out : List ℕ) (p : Profile) (s s' : Settings) (r : Readings) (u : Bool) (d : Decided) → held s' ≡ changed_by (held s) d.change.value (list_of d.change.sources)
     → Sofar g₀ input out₀ (decided_state (gauge p s r u) d) at used out → Sofar g₀ input out₀ (gauge p s' r d.unlocked) at used out
 stored g₀ input out₀ at used out p s s' r u d e = subst (λ (h : Held). Sofar g₀ input out₀ (record { limits = limits_of p; settings = h; readings = r; unlocked = d.unlocked }) at used out) (sym e)

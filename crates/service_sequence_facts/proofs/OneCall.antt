@@ -19,7 +19,7 @@ use Rattle.gauge_table.specs.Table.{answer_room}
 use Rattle.gauge_table.proofs.DecidedV2.{by}
 use Rattle.gauge_table.specs.After.{answer_of, next_of}
 use Rattle.text_gauge.specs.Answer.{Answers}
-use Rattle.text_gauge.specs.declared.Answered.{Answered}
+use Rattle.buffer.specs.declared.Answered.{Answered}
 use Rattle.gauge_facts.specs.Sound.{SoundState}
 use Rattle.gauge_facts.proofs.Kept.{next_sound}
 use Rattle.gauge_facts.proofs.Profile.{profile_stays}
@@ -57,7 +57,7 @@ exchange m s memory =
 one_request : (p : Profile) {h : History} {m : State} → Reaches p h m → SoundState m → m.limits ≡ limits_of p → (s memory : List ℕ) → Reaches p (exchange m s memory ∷ h) (next_of m (length memory) s)
 one_request p {m = m} t k l s memory g e =
     let a = answer_of m (length memory) s in
-    let r : Answered = record { gauge = g; written = record { number = a.number; len = length a.reply } } in
+    let r : Answered Gauge = record { gauge = g; written = record { number = a.number; len = length a.reply } } in
     ask {r = r} (t (gauge_of p m) (holds_back p m k l))
     (subst (λ (x : State). Answers x s memory (over a.reply memory) r) (sym (holds_back p m k l)) (record { sent = record { number = refl; len = refl; memory = refl }; state = e }))
 

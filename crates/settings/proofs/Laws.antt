@@ -5,6 +5,7 @@ use Prim.Native.Nat.{ℕ, ◌<◌, ◌≤◌}
 use native.Mathlib.Omega.{arith}
 use lib.ListN.{length, length-append}
 use lib.Dec.{eqb}
+use Rattle.std.specs.Prelude.{None, Option, Some}
 use Rattle.buffer.specs.First.{pick}
 use Rattle.buffer.proofs.Laws.{within_true, within_in}
 use Rattle.decimal.specs.declared.Number.{Number}
@@ -19,8 +20,6 @@ use Rattle.settings.specs.Units.{unit_named}
 use Rattle.settings.specs.Sent.{transition_text}
 use Rattle.settings.specs.declared.PressureUnit.{PressureUnit}
 use Rattle.settings.specs.declared.PressureUnit.TheVariants.{Mbar, Torr, HPa}
-use Rattle.settings.specs.declared.NamedUnit.{NamedUnit}
-use Rattle.settings.specs.declared.NamedUnit.TheVariants.{Unit, None}
 use Rattle.settings.specs.declared.Transition.{Transition}
 use Rattle.settings.specs.declared.Transition.TheVariants.{Direct, Between}
 use Rattle.settings.specs.Theorems.{LongestIs}
@@ -51,16 +50,10 @@ codes_are Vsm = refl
 
 -- the sources of a profile: `0` is one of them, and each has a place in a list
 pub zero_here : (p : Profile) → among (limits_of p).source_codes 0 ≡ true
-unfolding limits_of
-zero_here Standard = zero_in Standard
-zero_here Vsh = zero_in Vsh
-zero_here Vsm = zero_in Vsm
+zero_here p = rw codes_are (zero_in p)
 
 pub few_here : (p : Profile) → length (limits_of p).source_codes ≤ capacity
-unfolding limits_of
-few_here Standard = few Standard
-few_here Vsh = few Vsh
-few_here Vsm = few Vsm
+few_here p = rw codes_are (few p)
 
 -- ---- the factor
 
@@ -77,15 +70,15 @@ factor_small n e = omega (arith, (factor_true n e).1)
 -- ---- the units
 
 -- what is made of a unit that a number names, by the unit
-abbrev pub named_by : {A : Type 0} (f : PressureUnit → A) (d : A) → NamedUnit → A
-named_by f d (Unit u) = f u
+abbrev pub named_by : {A : Type 0} (f : PressureUnit → A) (d : A) → Option PressureUnit → A
+named_by f d (Some u) = f u
 named_by f d None = d
 
-pub unit_by : {A : Type 0} (f : PressureUnit → A) (d : A) (n : ℕ) → unit_named f d n ≡ named_by f d (unit_named Unit None n)
+pub unit_by : {A : Type 0} (f : PressureUnit → A) (d : A) (n : ℕ) → unit_named f d n ≡ named_by f d (unit_named Some None n)
 unfolding pick
 unit_by f d n = go (eqb n 0) (eqb n 1) (eqb n 2)
   where
-    go : (a b c : Bool) → pick a (f Mbar) (pick b (f Torr) (pick c (f HPa) d)) ≡ named_by f d (pick a (Unit Mbar) (pick b (Unit Torr) (pick c (Unit HPa) None)))
+    go : (a b c : Bool) → pick a (f Mbar) (pick b (f Torr) (pick c (f HPa) d)) ≡ named_by f d (pick a (Some Mbar) (pick b (Some Torr) (pick c (Some HPa) None)))
     go true b c = refl
     go false true c = refl
     go false false true = refl

@@ -1,5 +1,5 @@
 -- The settings: what they hold, factory values, and what a write or a restore changes.
-use Rattle.std.specs.Prelude.{Bool, false, List, [], ℕ}
+use Rattle.std.specs.Prelude.{Bool, false, List, [], ℕ, None, Option, Some}
 use Rattle.sources.specs.Source.{list_of}
 use Rattle.settings.specs.Limits.{ProfileLimits}
 use Rattle.settings.specs.declared.PressureUnit.{PressureUnit}
@@ -9,8 +9,6 @@ use Rattle.settings.specs.declared.Key.{Key}
 use Rattle.settings.specs.declared.Key.TheVariants.{DA, DU, C1, CM, CC, FC, ST, SM}
 use Rattle.settings.specs.declared.Setting.{Setting}
 use Rattle.settings.specs.declared.Setting.TheVariants.{Address, PressureIn, Factor, Control, Cathode, Filament, Switch, Stream}
-use Rattle.settings.specs.declared.Put.{Put}
-use Rattle.settings.specs.declared.Put.TheVariants.{Nothing, Value}
 use Rattle.settings.specs.declared.Settings.{Settings}
 
 -- what settings hold, the sources as a list; the list counts while lines are sent
@@ -74,6 +72,6 @@ unfoldable pub restore_of : ProfileLimits → Held → Key → Held
 restore_of limits s key = put_of s (factory_of limits key) []
 
 -- the settings after a change: as they were, or with one of them set
-unfoldable pub changed_by : Held → Put → List ℕ → Held
-changed_by s Nothing list = s
-changed_by s (Value x) list = put_of s x list
+unfoldable pub changed_by : Held → Option Setting → List ℕ → Held
+changed_by s None list = s
+changed_by s (Some x) list = put_of s x list

@@ -1,15 +1,17 @@
 #![tactic(auto)]
 // The settings of the text gauge (document 01, "Settings and readings, V2"): factory values, limits, what a write or a restore
 // changes, and the texts that reads send.
-ghost use Rattle.std.specs.Prelude.{◌≡◌, [], ◌∷◌};
+ghost use Rattle.std.specs.Prelude.{◌≡◌, [], ◌∷◌, None, Some};
 ghost use Rattle.buffer.specs.Text.{text_of};
 ghost use Rattle.buffer.specs.Byte.{digit, digits3};
 ghost use Rattle.sources.specs.Source.{list_of, Counted};
 ghost use Rattle.settings.specs.Limits.{is_factor, limits_of};
-ghost use Rattle.settings.specs.Settings.{held, factory, key_of, factory_of, both_of, put_of, restore_of, changed_by};
-ghost use Rattle.settings.specs.declared.NamedUnit.{NamedUnit};
+ghost use Rattle.settings.specs.Settings.{held, factory, key_of, factory_of, put_of, restore_of, changed_by};
 ghost use Rattle.settings.specs.Units.{unit_code, unit_named};
 ghost use Rattle.settings.specs.Sent.{unit_text, transition_text, stream_text, read_text};
+
+use decimal::Number;
+use sources::{Profile, Sources, WithSources};
 
 // The unit of pressure, DU.
 #[derive(Clone, Copy)]
@@ -19,27 +21,11 @@ pub enum PressureUnit {
     HPa,
 }
 
-impl PressureUnit {
-    // The texts of the units.
-    pub const MBAR_TEXT: [u8; 4] = [b'm', b'b', b'a', b'r'];
-
-    pub const TORR_TEXT: [u8; 4] = [b'T', b'o', b'r', b'r'];
-
-    pub const HPA_TEXT: [u8; 3] = [b'h', b'P', b'a'];
-}
-
-// What a number of V1 names: a unit, or none.
-#[derive(Clone, Copy)]
-pub enum NamedUnit {
-    Unit(PressureUnit),
-    None,
-}
-
 // The transition of ST: a direct switch, or one between two ends.
 #[derive(Clone, Copy)]
 pub enum Transition {
-    Direct(decimal::Number),
-    Between(decimal::Number, decimal::Number),
+    Direct(Number),
+    Between(Number, Number),
 }
 
 // The settings by their commands: the table's rows with a write.
@@ -77,7 +63,7 @@ pub enum Setting {
     Stream(bool),
 }
 
-// The settings. The list counts while lines are sent.
+// The settings. The list counts while lines are sent. (No `Option` of a list: the list that a write hands over stands, whatever its mode is.)
 #[derive(Clone, Copy)]
 pub struct Settings {
     pub address: u8,
@@ -88,21 +74,7 @@ pub struct Settings {
     pub filament: u8,
     pub transition: Transition,
     pub streaming: bool,
-    pub sources: sources::Sources,
-}
-
-// Nothing, or the value of one setting.
-#[derive(Clone, Copy)]
-pub enum Put {
-    Nothing,
-    Value(Setting),
-}
-
-// What a request changes: what it puts, and the sources that count where it puts Stream.
-#[derive(Clone, Copy)]
-pub struct Change {
-    pub sources: sources::Sources,
-    pub put: Put,
+    pub sources: Sources,
 }
 
 impl Settings {
@@ -121,38 +93,38 @@ impl Settings {
     pub const FILAMENT_MAX: u8 = 3;
 
     // The numbers of ST lie from 1 to 20, on VSH from 4e-4 to 1e-2, on VSM from 4e-4 to 2e-3.
-    pub const TRANSITION_MIN: decimal::Number = decimal::Number {
+    pub const TRANSITION_MIN: Number = Number {
         negative: false,
         mantissa: 100000,
         place: 9,
     };
 
-    pub const TRANSITION_MAX: decimal::Number = decimal::Number {
+    pub const TRANSITION_MAX: Number = Number {
         negative: false,
         mantissa: 200000,
         place: 10,
     };
 
-    pub const HOT_TRANSITION_MIN: decimal::Number = decimal::Number {
+    pub const HOT_TRANSITION_MIN: Number = Number {
         negative: false,
         mantissa: 400000,
         place: 5,
     };
 
-    pub const VSH_TRANSITION_MAX: decimal::Number = decimal::Number {
+    pub const VSH_TRANSITION_MAX: Number = Number {
         negative: false,
         mantissa: 100000,
         place: 7,
     };
 
-    pub const VSM_TRANSITION_MAX: decimal::Number = decimal::Number {
+    pub const VSM_TRANSITION_MAX: Number = Number {
         negative: false,
         mantissa: 200000,
         place: 6,
     };
 
     // The factory transition of a hot cathode gauge.
-    pub const HOT_TRANSITION: Transition = Transition::Direct(decimal::Number {
+    pub const HOT_TRANSITION: Transition = Transition::Direct(Number {
         negative: false,
         mantissa: 100000,
         place: 6,
@@ -166,90 +138,87 @@ impl Settings {
         control: 1,
         cathode: 1,
         filament: 0,
-        transition: Transition::Direct(decimal::Number {
+        transition: Transition::Direct(Number {
             negative: false,
             mantissa: 100000,
             place: 9,
         }),
         streaming: false,
-        sources: sources::Sources {
-            codes: [0, 0, 0, 0, 0, 0, 0],
-            count: 0,
-        },
+        sources: Sources::NONE,
     };
 
     // Whether a factor, in hundredths, lies within its limits.
+    #[tactic(auto, unfolding(buffer::specs::Byte::within))]
     pub fn is_factor(n: u32) -> bool
         ensures { result ≡ is_factor n }
     {
-        Settings::FACTOR_MIN as u32 <= n && n <= Settings::FACTOR_MAX as u32
+        (u32::from(Settings::FACTOR_MIN)..=u32::from(Settings::FACTOR_MAX)).contains(&n)
     }
 
+    // The next four go by the profile. (No record for each profile: its fields would be read by these functions, with these contracts.)
     // The lower limit of ST's numbers.
-    pub fn transition_min(profile: sources::Profile) -> decimal::Number
+    #[tactic(auto, unfolding(crate::specs::Limits::limits_of))]
+    pub fn transition_min(profile: Profile) -> Number
         ensures { result ≡ (limits_of profile).transition_low }
     {
         match profile {
-            sources::Profile::Standard => Settings::TRANSITION_MIN,
-            sources::Profile::Vsh => Settings::HOT_TRANSITION_MIN,
-            sources::Profile::Vsm => Settings::HOT_TRANSITION_MIN,
+            Profile::Standard => Settings::TRANSITION_MIN,
+            Profile::Vsh | Profile::Vsm => Settings::HOT_TRANSITION_MIN,
         }
     }
 
     // The upper limit of ST's numbers.
-    pub fn transition_max(profile: sources::Profile) -> decimal::Number
+    #[tactic(auto, unfolding(crate::specs::Limits::limits_of))]
+    pub fn transition_max(profile: Profile) -> Number
         ensures { result ≡ (limits_of profile).transition_high }
     {
         match profile {
-            sources::Profile::Standard => Settings::TRANSITION_MAX,
-            sources::Profile::Vsh => Settings::VSH_TRANSITION_MAX,
-            sources::Profile::Vsm => Settings::VSM_TRANSITION_MAX,
+            Profile::Standard => Settings::TRANSITION_MAX,
+            Profile::Vsh => Settings::VSH_TRANSITION_MAX,
+            Profile::Vsm => Settings::VSM_TRANSITION_MAX,
         }
     }
 
     // Whether ST has the form of two numbers.
-    pub fn has_between(profile: sources::Profile) -> bool
+    #[tactic(auto, unfolding(crate::specs::Limits::limits_of))]
+    pub fn has_between(profile: Profile) -> bool
         ensures { result ≡ (limits_of profile).between_form }
     {
-        match profile {
-            sources::Profile::Standard => true,
-            sources::Profile::Vsh => false,
-            sources::Profile::Vsm => false,
-        }
+        matches!(profile, Profile::Standard)
     }
 
     // The factory transition.
-    pub fn factory_transition(profile: sources::Profile) -> Transition
+    #[tactic(auto, unfolding(crate::specs::Limits::limits_of))]
+    pub fn factory_transition(profile: Profile) -> Transition
         ensures { result ≡ (limits_of profile).factory_transition }
     {
-        let f = Settings::FACTORY;
-        let transition = f.transition;
         match profile {
-            sources::Profile::Standard => transition,
-            sources::Profile::Vsh => Settings::HOT_TRANSITION,
-            sources::Profile::Vsm => Settings::HOT_TRANSITION,
+            Profile::Standard => Settings::FACTORY.transition,
+            Profile::Vsh | Profile::Vsm => Settings::HOT_TRANSITION,
         }
     }
 
     // The settings as they leave the works.
-    pub fn at_factory(profile: sources::Profile) -> Settings
+    #[tactic(auto, unfolding(sources::specs::Source::list_of, sources::specs::Source::Counted))]
+    pub fn at_factory(profile: Profile) -> Settings
         ensures result_value { held result ≡ factory (limits_of profile) }
         ensures counted { Counted result.sources }
     {
-        let f = Settings::FACTORY;
-        let unit = f.unit;
-        f.with_both(unit, Settings::factory_transition(profile))
+        Settings {
+            transition: Settings::factory_transition(profile),
+            ..Settings::FACTORY
+        }
     }
 
     // The factory value of one setting.
-    pub fn factory_value(profile: sources::Profile, key: Key) -> Setting
+    #[tactic(auto, unfolding(crate::specs::Settings::factory_of))]
+    pub fn factory_value(profile: Profile, key: Key) -> Setting
         ensures { result ≡ factory_of (limits_of profile) key }
     {
         let f = Settings::FACTORY;
-        let unit = f.unit;
         match key {
             Key::DA => Setting::Address(f.address),
-            Key::DU => Setting::PressureIn(unit),
+            Key::DU => Setting::PressureIn(f.unit),
             Key::C1 => Setting::Factor(f.factor),
             Key::CM => Setting::Control(f.control),
             Key::CC => Setting::Cathode(f.cathode),
@@ -259,109 +228,68 @@ impl Settings {
         }
     }
 
-    // The settings made anew: a field that is an enum is not stored to.
-    fn with_both(self, unit: PressureUnit, transition: Transition) -> Settings
-        ensures result_value { held result ≡ both_of (held self) unit transition }
-        ensures sources_value { result.sources ≡ self.sources }
-    {
-        let sources = self.sources;
-        Settings {
-            address: self.address,
-            unit,
-            factor: self.factor,
-            control: self.control,
-            cathode: self.cathode,
-            filament: self.filament,
-            transition,
-            streaming: self.streaming,
-            sources,
-        }
-    }
-
     // The settings with one of them set, and no other changed. The list counts for Stream only.
-    pub fn with(self, setting: Setting, list: sources::Sources) -> Settings
+    #[tactic(auto, unfolding(crate::specs::Settings::put_of))]
+    pub fn with(self, setting: Setting, list: Sources) -> Settings
         ensures result_value { held result ≡ put_of (held self) setting (list_of list) }
         ensures counted { Counted self.sources → Counted list → Counted result.sources }
     {
-        let mut s = self;
-        let unit = self.unit;
-        let transition = self.transition;
         match setting {
-            Setting::Address(v) => {
-                s.address = v;
-                s
-            }
-            Setting::PressureIn(v) => s.with_both(v, transition),
-            Setting::Factor(v) => {
-                s.factor = v;
-                s
-            }
-            Setting::Control(v) => {
-                s.control = v;
-                s
-            }
-            Setting::Cathode(v) => {
-                s.cathode = v;
-                s
-            }
-            Setting::Filament(v) => {
-                s.filament = v;
-                s
-            }
-            Setting::Switch(v) => s.with_both(unit, v),
-            Setting::Stream(v) => {
-                s.streaming = v;
-                s.sources = list;
-                s
-            }
+            Setting::Address(address) => Settings { address, ..self },
+            Setting::PressureIn(unit) => Settings { unit, ..self },
+            Setting::Factor(factor) => Settings { factor, ..self },
+            Setting::Control(control) => Settings { control, ..self },
+            Setting::Cathode(cathode) => Settings { cathode, ..self },
+            Setting::Filament(filament) => Settings { filament, ..self },
+            Setting::Switch(transition) => Settings { transition, ..self },
+            Setting::Stream(streaming) => Settings {
+                streaming,
+                sources: list,
+                ..self
+            },
         }
     }
 
     // The settings with one of them at its factory value.
-    pub fn restored(self, profile: sources::Profile, key: Key) -> Settings
+    #[tactic(auto, unfolding(crate::specs::Settings::restore_of, sources::specs::Source::list_of, sources::specs::Source::Counted))]
+    pub fn restored(self, profile: Profile, key: Key) -> Settings
         ensures result_value { held result ≡ restore_of (limits_of profile) (held self) key }
         ensures counted { Counted self.sources → Counted result.sources }
     {
-        self.with(
-            Settings::factory_value(profile, key),
-            sources::Sources::NONE,
-        )
+        self.with(Settings::factory_value(profile, key), Sources::NONE)
     }
 
-    // The settings after a change.
-    pub fn changed(self, change: Change) -> Settings
-        ensures result_value { held result ≡ changed_by (held self) change.put (list_of change.sources) }
+    // The settings after a change: what a request puts, and the sources that count where it puts Stream.
+    #[tactic(auto, unfolding(crate::specs::Settings::changed_by))]
+    pub fn changed(self, change: WithSources<Option<Setting>>) -> Settings
+        ensures result_value { held result ≡ changed_by (held self) change.value (list_of change.sources) }
         ensures counted { Counted self.sources → Counted change.sources → Counted result.sources }
     {
-        let put = change.put;
-        let list = change.sources;
-        match put {
-            Put::Nothing => self,
-            Put::Value(setting) => self.with(setting, list),
+        match change.value {
+            None => self,
+            Some(setting) => self.with(setting, change.sources),
         }
     }
 
     // The text that a read of one setting sends.
+    #[tactic(auto, unfolding(crate::specs::Sent::read_text))]
     pub fn text(self, key: Key) -> buffer::Text
         ensures { text_of result ≡ read_text key (held self) }
     {
-        let unit = self.unit;
-        let transition = self.transition;
-        let list = self.sources;
         match key {
             Key::DA => address_text(self.address),
-            Key::DU => unit_text(unit),
+            Key::DU => unit_text(self.unit),
             Key::C1 => decimal_text::two_decimals(false, self.factor),
             Key::CM => digit_text(self.control),
             Key::CC => digit_text(self.cathode),
             Key::FC => digit_text(self.filament),
-            Key::ST => transition_text(transition),
-            Key::SM => stream_text(self.streaming, list),
+            Key::ST => transition_text(self.transition),
+            Key::SM => stream_text(self.streaming, self.sources),
         }
     }
 }
 
-// The command of a setting.
+// The command of a setting. (No `From`: the contracts call it by this name too.)
 pub fn key_of(setting: Setting) -> Key
     ensures { result ≡ key_of setting }
 {
@@ -378,38 +306,32 @@ pub fn key_of(setting: Setting) -> Key
 }
 
 // Three digits.
+#[tactic(auto, unfolding(buffer::specs::Text::text_of, buffer::specs::Text::cut))]
 pub fn address_text(address: u8) -> buffer::Text
     ensures { text_of result ≡ digits3 address }
 {
     let digits = [
-        address / 100 % 10 + 48,
-        address / 10 % 10 + 48,
-        address % 10 + 48,
+        address / 100 % 10 + b'0',
+        address / 10 % 10 + b'0',
+        address % 10 + b'0',
     ];
     buffer::Text::EMPTY.add(&digits)
 }
 
 // `mbar`, `Torr` or `hPa`.
+#[tactic(auto, unfolding(crate::specs::Sent::unit_text, buffer::specs::Text::text_of, buffer::specs::Text::cut))]
 pub fn unit_text(unit: PressureUnit) -> buffer::Text
     ensures { text_of result ≡ unit_text unit }
 {
     match unit {
-        PressureUnit::Mbar => {
-            let t = PressureUnit::MBAR_TEXT;
-            buffer::Text::EMPTY.add(&t)
-        }
-        PressureUnit::Torr => {
-            let t = PressureUnit::TORR_TEXT;
-            buffer::Text::EMPTY.add(&t)
-        }
-        PressureUnit::HPa => {
-            let t = PressureUnit::HPA_TEXT;
-            buffer::Text::EMPTY.add(&t)
-        }
+        PressureUnit::Mbar => buffer::Text::EMPTY.add(b"mbar"),
+        PressureUnit::Torr => buffer::Text::EMPTY.add(b"Torr"),
+        PressureUnit::HPa => buffer::Text::EMPTY.add(b"hPa"),
     }
 }
 
-// V1's number of a unit.
+// V1's number of a unit. (No `From`: `u32::from(unit)` would not say that the number is V1's.)
+#[tactic(auto, unfolding(crate::specs::Units::unit_code))]
 pub fn unit_number(unit: PressureUnit) -> u32
     ensures { result ≡ unit_code unit }
 {
@@ -420,23 +342,25 @@ pub fn unit_number(unit: PressureUnit) -> u32
     }
 }
 
-// The unit that one of V1's numbers names, or none.
-pub fn unit_named(n: u32) -> NamedUnit
-    ensures { result ≡ unit_named NamedUnit.Unit NamedUnit.None n }
+// The unit that one of V1's numbers names, or none. (No `TryFrom`, for the same reason.)
+#[tactic(auto, unfolding(buffer::specs::First::pick))]
+pub fn unit_named(n: u32) -> Option<PressureUnit>
+    ensures { result ≡ unit_named Some None n }
 {
     match n {
-        0 => NamedUnit::Unit(PressureUnit::Mbar),
-        1 => NamedUnit::Unit(PressureUnit::Torr),
-        2 => NamedUnit::Unit(PressureUnit::HPa),
-        _ => NamedUnit::None,
+        0 => Some(PressureUnit::Mbar),
+        1 => Some(PressureUnit::Torr),
+        2 => Some(PressureUnit::HPa),
+        _ => None,
     }
 }
 
 // One digit.
+#[tactic(auto, unfolding(buffer::specs::Text::text_of, buffer::specs::Text::cut))]
 pub fn digit_text(d: u8) -> buffer::Text
     ensures { text_of result ≡ digit d ∷ [] }
 {
-    buffer::Text::EMPTY.push(d % 10 + 48)
+    buffer::Text::EMPTY.push(d % 10 + b'0')
 }
 
 // `D` and a number, or `F`, a number, `T` and a number.
@@ -456,7 +380,7 @@ pub fn transition_text(transition: Transition) -> buffer::Text
 }
 
 // `0`, or `4` and a list.
-pub fn stream_text(on: bool, list: sources::Sources) -> buffer::Text
+pub fn stream_text(on: bool, list: Sources) -> buffer::Text
     ensures { text_of result ≡ stream_text on (list_of list) }
 {
     if on {

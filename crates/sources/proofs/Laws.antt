@@ -1,23 +1,22 @@
 -- Laws of sources, and of texts cut at each `D`.
 use mathlib.Core.Path.{◌≡◌, refl, sym, ◌∙◌}
-use mathlib.Core.Bool.{Bool, true, false, cond, ◌&&◌, ◌||◌}
+use mathlib.Core.Bool.{Bool, true, false, not, ◌&&◌, ◌||◌}
 use mathlib.Core.List.{List, [], ◌∷◌}
-use Prim.Native.Nat.compare
-use Prim.Native.Nat.{ℕ, zero, suc, ◌+◌, ◌*◌, ◌≤◌, ◌<◌}
-use native.Mathlib.Numerals.{add-one}
+use Prim.Native.Nat.{ℕ, zero, suc, ◌+◌, ◌-◌, ◌*◌, ◌≤◌, ◌<◌}
 use native.Mathlib.Omega.{arith}
-use borrow.Author.Tests.{lt-leb, lt-ltb, eq-eqb, ne_eqb, eqb-true}
-use lib.Dec.{eqb, leb, ltb}
+use borrow.Author.Tests.{lt-leb, eq-eqb, ne_eqb, eqb-true}
+use lib.Dec.{eqb, leb}
 use lib.ListN.{length, get_or, set, take, length-append, length-take, length-set, drop}
 use lib.Seq.{take_all}
-use Rattle.buffer.specs.Byte.{within, is_digit, every, until_of, digit}
+use Rattle.std.specs.List.{list_any, slice_split, onto_first}
+use Rattle.buffer.specs.Byte.{within, is_digit, every, digit}
 use Rattle.buffer.specs.First.{pick}
 use Rattle.buffer.proofs.Rules.{each}
-use Rattle.buffer.proofs.Laws.{within_true, filled, full}
-use Rattle.sources.specs.Source.{among, is_source, source_text, list_text, list_of, Counted, Pushed}
+use Rattle.buffer.proofs.Laws.{within_true, filled, full, drop_step, part_rest}
+use Rattle.sources.specs.Source.{among, all_differ, is_source, source_text, list_text, list_of, Counted, Pushed}
 use Rattle.sources.specs.declared.Sources.{Sources}
 use Rattle.sources.specs.Theorems.{CountFixed}
-use Rattle.sources.specs.Entries.{onto, parts, source_texts}
+use Rattle.sources.specs.Entries.{onto, parts}
 
 -- ---- sources
 
@@ -62,24 +61,18 @@ one_byte [] h = absurd (omega arith)
 one_byte (x ∷ []) h = refl
 one_byte (x ∷ y ∷ s) h = absurd (omega arith)
 
-pub two_bytes : (s : List ℕ) → length s ≡ 2 → s ≡ get_or s 0 0 ∷ get_or s 1 0 ∷ []
-two_bytes [] h = absurd (omega arith)
-two_bytes (x ∷ []) h = absurd (omega arith)
-two_bytes (x ∷ y ∷ []) h = refl
-two_bytes (x ∷ y ∷ z ∷ s) h = absurd (omega arith)
-
 -- ---- a text cut at each `D`
 
--- the first part, and then what follows each `D`
-pub parts_front : (s : List ℕ) → parts s ≡ take (until_of 68 s) s ∷ source_texts (drop (until_of 68 s) s)
-unfolding parts until_of source_texts onto
-parts_front [] = refl
-parts_front (x ∷ s) = go (eqb x 68) (parts_front s)
-  where
-    go : (b : Bool) → parts s ≡ take (until_of 68 s) s ∷ source_texts (drop (until_of 68 s) s)
-        → cond b ([] ∷ parts s) (onto x (parts s)) ≡ take (cond b 0 (until_of 68 s + 1)) (x ∷ s) ∷ source_texts (drop (cond b 0 (until_of 68 s + 1)) (x ∷ s))
-    go true h = refl
-    go false h = rw (h, add-one (until_of 68 s))
+-- as `split` cuts it
+onto_is : (x : ℕ) (ts : List (List ℕ)) → onto_first x ts ≡ onto x ts
+unfolding onto
+onto_is x [] = refl
+onto_is x (t ∷ ts) = refl
+
+pub parts_split : (s : List ℕ) → slice_split (λ b. eqb b 68) s ≡ parts s
+unfolding parts
+parts_split [] = refl
+parts_split (x ∷ s) = rw (parts_split s, onto_is x (parts s))
 
 -- ---- texts
 
@@ -124,13 +117,19 @@ eqb_sym a b = go (eqb a b) refl
     go true e = sym (eq-eqb b a (sym (eqb-true a b e)))
     go false e = sym (ne_eqb b a (λ (h : b ≡ a). let z : false ≡ true = sym e ∙ eq-eqb a b (sym h) in let y : ◌≡◌ {A = ℕ} 0 1 = cc in omega arith))
 
-pub among_until : (c : ℕ) (s : List ℕ) → among s c ≡ ltb (until_of c s) (length s)
-unfolding among until_of
-among_until c [] = refl
-among_until c (x ∷ s) = go (eqb c x) (eqb x c) (eqb_sym c x) (among_until c s)
-  where
-    go : (a b : Bool) → a ≡ b → among s c ≡ ltb (until_of c s) (length s) → (a || among s c) ≡ ltb (cond b 0 (until_of c s + 1)) (suc (length s))
-    go true true e h = sym (lt-ltb 0 (suc (length s)) (omega arith))
-    go true false e h = absurd (let z : ◌≡◌ {A = ℕ} 0 1 = cc in omega arith)
-    go false true e h = absurd (let z : ◌≡◌ {A = ℕ} 0 1 = cc in omega arith)
-    go false false e h = rw (add-one (until_of c s), compare.suc-suc) h
+-- in the words of `contains`
+pub among_any : (s : List ℕ) (c : ℕ) → list_any (λ d. eqb d c) s ≡ among s c
+unfolding among
+among_any [] c = refl
+among_any (d ∷ s) c = rw (eqb_sym d c, among_any s c)
+
+pub contained : (s : List ℕ) (c : ℕ) (r v : Bool) → r ≡ list_any (λ d. eqb d c) s → r ≡ v → among s c ≡ v
+contained s c r v e h = sym (among_any s c) ∙ sym e ∙ h
+
+-- whether the first of what is left stands again
+pub differ_step : (s : List ℕ) (i : ℕ) (r v : Bool) → i < length s → r ≡ list_any (λ d. eqb d (get_or s i 0)) (take (length s - (i + 1)) (drop (i + 1) s)) → r ≡ v
+    → all_differ (drop i s) ≡ (not v && all_differ (drop (i + 1) s))
+unfolding all_differ
+differ_step s i r v h e k =
+    let again : among (drop (i + 1) s) (get_or s i 0) ≡ v = contained _ _ r v (rw part_rest at e) k in
+    rw (drop_step s i h, again)

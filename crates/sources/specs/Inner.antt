@@ -1,28 +1,20 @@
 -- What inner functions promise; no public contract cites this file.
-use Rattle.std.specs.Prelude.{◌≡◌, ◌&&◌, List, map, ℕ, take}
-use Rattle.buffer.specs.First.{pick}
+use Rattle.std.specs.Prelude.{◌≡◌, true, false, List, map, ℕ, take, Err, Ok, Result}
 use Rattle.buffer.specs.Byte.{every}
-use Rattle.sources.specs.Source.{among, capacity, list_of, Counted, Pushed}
-use Rattle.sources.specs.Entries.{entries_of, is_formed, is_known, code_of}
-use Rattle.sources.specs.declared.Run.{Run}
-use Rattle.sources.specs.declared.Source.{Source}
-use Rattle.sources.specs.declared.Source.TheVariants.{Known, Unknown, Malformed}
+use Rattle.sources.specs.Source.{capacity, list_of, Counted}
+use Rattle.sources.specs.Entries.{is_formed, is_known, code_of}
+use Rattle.sources.specs.declared.Sources.{Sources}
+use Rattle.sources.specs.declared.SourceError.{SourceError}
 
--- a source to a gauge with these sources: another one is unknown
-unfoldable pub offered_as : List ℕ → Source → Source
-offered_as codes (Known c) = pick (among codes c) (Known c) Unknown
-offered_as codes Unknown = Unknown
-offered_as codes Malformed = Malformed
+-- q is the list of these entries, all of which are known
+pub record Kept (es : List (Result ℕ SourceError)) (q : Sources) : Type 0 where
+  pub formed : every is_formed es ≡ true
+  pub known : every is_known es ≡ true
+  pub list : list_of q ≡ take capacity (map code_of es)
+  pub counted : Counted q
 
--- r is `run` and one entry more
-pub record Taken (run : Run) (e : Source) (r : Run) : Type 0 where
-  pub formed : r.formed ≡ (run.formed && is_formed e)
-  pub known : r.known ≡ (run.known && is_known e)
-  pub sources : Pushed run.sources (code_of e) r.sources
-
--- r is all entries of a text
-pub record Ran (codes s : List ℕ) (r : Run) : Type 0 where
-  pub formed : r.formed ≡ every is_formed (entries_of codes s)
-  pub known : r.known ≡ every is_known (entries_of codes s)
-  pub list : list_of r.sources ≡ take capacity (map code_of (entries_of codes s))
-  pub counted : Counted r.sources
+-- r is the list of these entries, or the worst of their errors
+abbrev pub Ran : List (Result ℕ SourceError) → Result Sources SourceError → Type 0
+Ran es (Ok q) = Kept es q
+Ran es (Err SourceError.Unknown) = (every is_formed es ≡ true) × (every is_known es ≡ false)
+Ran es (Err SourceError.Malformed) = every is_formed es ≡ false

@@ -3,3 +3,4 @@ pub mod Source
 pub mod Entries
 pub mod Inner
 pub mod Theorems
+pub mod Beside

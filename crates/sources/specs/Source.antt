@@ -1,13 +1,12 @@
 -- Sources and their texts.
-use Rattle.std.specs.Prelude.{◌≡◌, Bool, true, false, ◌&&◌, ◌||◌, not, List, [], ◌∷◌, ◌++◌, ℕ, ◌+◌, ◌-◌, eqb, length, take}
+use Rattle.std.specs.Prelude.{◌≡◌, Bool, true, false, ◌&&◌, ◌||◌, not, List, [], ◌∷◌, ◌++◌, ℕ, ◌+◌, ◌-◌, eqb, length, take, Err, Ok, Result}
 use Rattle.buffer.specs.First.{◌⇒◌, first, pick}
 use Rattle.buffer.specs.Byte.{at, within, is_digit, every, same_text, digit}
 use Rattle.buffer.specs.Quoted.{bytes}
-use Rattle.sources.specs.declared.Source.{Source}
-use Rattle.sources.specs.declared.Source.TheVariants.{Known, Unknown, Malformed}
 use Rattle.sources.specs.declared.Sources.{Sources}
 use Rattle.sources.specs.declared.Profile.{Profile}
 use Rattle.sources.specs.declared.Profile.TheVariants.{Standard, Vsh, Vsm}
+use Rattle.sources.specs.declared.SourceError.{SourceError}
 
 -- A source is known by a code: its digit, or 8 for `T2`, 9 for `T6`. "The sources here are exactly `0 1 2 6 7 T2 T6`"
 abbrev pub known_sources : List ℕ
@@ -64,13 +63,13 @@ unfoldable pub is_source : List ℕ → Bool
 is_source t = every is_digit t && within 1 2 (length t) || eqb (length t) 2 && eqb (at t 0) 84 && is_digit (at t 1)
 
 -- the first of these codes whose text it is
-unfoldable pub find_source : List ℕ → List ℕ → Source
-find_source [] t = Unknown
-find_source (c ∷ cs) t = pick (same_text t (source_text c)) (Known c) (find_source cs t)
+unfoldable pub find_source : List ℕ → List ℕ → Result ℕ SourceError
+find_source [] t = Err SourceError.Unknown
+find_source (c ∷ cs) t = pick (same_text t (source_text c)) (Ok c) (find_source cs t)
 
 -- what the text of an entry's source is: not of the form, or one of these codes, or unknown
-unfoldable pub source_of : List ℕ → List ℕ → Source
-source_of codes t = first (not (is_source t) ⇒ Malformed ∷ []) (find_source codes t)
+unfoldable pub source_of : List ℕ → List ℕ → Result ℕ SourceError
+source_of codes t = first (not (is_source t) ⇒ Err SourceError.Malformed ∷ []) (find_source codes t)
 
 -- the codes of a list; a count past the array's end counts as the end
 unfoldable pub list_of : Sources → List ℕ

@@ -6,6 +6,7 @@ use Prim.Native.Nat.{ℕ, ◌≤◌}
 use borrow.Author.Tests.{ne_eqb}
 use lib.Dec.{eqb, ltb}
 use lib.ListN.{length}
+use Rattle.std.specs.Prelude.{Err, None, Ok, Option, Result}
 use Rattle.buffer.specs.First.{pick}
 use Rattle.buffer.specs.Byte.{at, within}
 use Rattle.buffer.specs.Answer.{Sent}
@@ -23,85 +24,84 @@ use Rattle.frames_facts.proofs.Exactly.{head_read_v1, head_read_v2}
 use Rattle.sources.specs.Source.{list_of}
 use Rattle.sources.specs.declared.Sources.{Sources}
 use Rattle.settings.specs.Settings.{Held, held, changed_by}
-use Rattle.settings.specs.declared.Change.{Change}
-use Rattle.settings.specs.declared.Put.{Put}
 use Rattle.settings.specs.declared.Settings.{Settings}
 use Rattle.requests.specs.AskV2.{ask_v2, ask_list}
 use Rattle.requests.specs.AskV1.{ask_v1}
 use Rattle.requests.specs.declared.RequestV2.{RequestV2}
 use Rattle.requests.specs.declared.RequestV1.{RequestV1}
-use Rattle.requests.specs.declared.AskV2.{AskV2}
-use Rattle.requests.specs.declared.AskV1.{AskV1}
 use Rattle.gauge_rules.specs.State.{State, state_of, settled, unlocked_as}
 use Rattle.gauge_rules.specs.RulesV2.{answer_code, grant_v2, text_v2, enter_v2}
 use Rattle.gauge_rules_v1.specs.RulesV1.{grant_v1, text_v1, repeats, unlocks, settings_v1}
 use Rattle.gauge_rules.specs.declared.Gauge.{Gauge}
 use Rattle.gauge_table.specs.Table.{answer_room, other_address, number_of}
-use Rattle.gauge_table.specs.Reply.{error_v2, error_v1, answer_head}
+use Rattle.gauge_table.specs.Reply.{error_v2, error_v1, answer_head, accepted_v2, accepted_v1}
+use Rattle.gauge_table.specs.After.{entered_v2, entered_v1, asks_unlock}
 use Rattle.gauge_table.proofs.Numbers.{Numbered, numbered, number_6, number_v1, number_v2}
 use Rattle.text_gauge.specs.Answer.{Decides, decided_state}
 use Rattle.text_gauge.specs.Inner.{Fits, answer_v2, next_v2, answer_v1, next_v1, DecidesV2, DecidesV1}
 use Rattle.text_gauge.specs.declared.Decided.{Decided}
 use Rattle.text_gauge.proofs.Bridge.{quiet, table_v2, table_length, table_v1}
+use Rattle.settings.specs.declared.Setting.{Setting}
+use Rattle.refusals.specs.declared.Refusal.{Refusal}
+use Rattle.refusals.specs.Number.{refusal_number}
+use Rattle.sources.specs.declared.WithSources.{WithSources}
+use native.Mathlib.Omega.{arith}
+use Rattle.gauge_table.proofs.Numbers.{some_number}
+use Rattle.gauge_table.specs.Decided.{decided_v2}
+use Rattle.gauge_table.specs.Decided.{decided_v1}
 
 -- nothing changes but the unlock
 abbrev Made : Bool → Written → Decided → Type 0
-Made u w r = (r.change.put ≡ Put.Nothing) × (r.unlocked ≡ u) × (r.written ≡ w)
+Made u w r = (r.change.value ≡ None) × (r.unlocked ≡ u) × (r.written ≡ w)
 
 stays : (g : State) (u : Bool) (w : Written) (r : Decided) → Made u w r → decided_state g r ≡ unlocked_as g u
 unfolding changed_by
 stays g u w r f = rw (f.0, f.1)
 
+-- what is decided with a refusal's number is not accepted
+not_0 : (k : Refusal) (n : ℕ) → refusal_number k ≡ n → eqb n 0 ≡ false
+not_0 k n e = ne_eqb n 0 (λ z. omega (arith, some_number k))
+
 -- ---- V2: a typed request
 
-module _ (gauge : Gauge) (h : HeadV2) (ask : AskV2) (list m m' : List ℕ) (w : Written) (r : Decided) where
-  pub refused_v2 : (k : ℕ) → ask ≡ AskV2.Refused k → Made gauge.unlocked w r → Sent m (record { number = k; reply = error_v2 k h }) m' w → DecidesV2 (state_of gauge) h ask list m m' r
-  unfolding answer_v2 next_v2
-  refused_v2 k e f s = rw e (record { sent = rw f.2 s; state = stays (state_of gauge) _ w r f })
-
-  pub denied_v2 : (q : RequestV2) (n : ℕ) → ask ≡ AskV2.Asks q → n ≡ grant_v2 (state_of gauge) q → (n ≡ 0 → ⊥) → Made gauge.unlocked w r
-      → Sent m (record { number = n; reply = error_v2 n h }) m' w → DecidesV2 (state_of gauge) h ask list m m' r
-  unfolding answer_v2 next_v2 pick
-  denied_v2 q n e g z f s =
-      let z0 : eqb (grant_v2 (state_of gauge) q) 0 ≡ false = ne_eqb _ 0 (λ o. z (g ∙ o)) in
-      rw e (record { sent = rw (f.2, z0, ← g) s; state = rw z0 (stays (state_of gauge) _ w r f) })
-
-pub granted_v2 : (gauge : Gauge) (h : HeadV2) (ask : AskV2) (list m m' : List ℕ) (w : Written) (q : RequestV2) (n code : ℕ) (text : List ℕ) (c : Change) → ask ≡ AskV2.Asks q → n ≡ grant_v2 (state_of gauge) q
-    → n ≡ 0 → code ≡ answer_code q → text ≡ text_v2 (state_of gauge) q → Sent m (record { number = 0; reply = frame_v2 (answer_head h code) text }) m' w → ((s : Held) → changed_by s c.put (list_of c.sources) ≡ enter_v2 (state_of gauge).limits s q list)
-    → DecidesV2 (state_of gauge) h ask list m m' (record { written = w; change = c; unlocked = gauge.unlocked })
+pub refused_v2 : (gauge : Gauge) (h : HeadV2) (ask : Result RequestV2 Refusal) (list m m' : List ℕ) (w : Written) (r : Decided) (k : Refusal) → refusal_number k ≡ decided_v2 (state_of gauge) ask → Made gauge.unlocked w r
+    → Sent m (record { number = refusal_number k; reply = error_v2 (refusal_number k) h }) m' w → DecidesV2 (state_of gauge) h ask list m m' r
 unfolding answer_v2 next_v2 pick
-granted_v2 gauge h ask list m m' w q n code text c e g z o t f k =
-    let z0 : grant_v2 (state_of gauge) q ≡ 0 = sym g ∙ z in
-    rw e (record { sent = rw z0 (rw (o, t) at f); state = rw (z0, k) })
+refused_v2 gauge h ask list m m' w r k e f s =
+    let z = not_0 k _ e in
+    record { sent = rw (f.2, z, ← e) s; state = rw z (stays (state_of gauge) _ w r f) }
+
+pub accepts_v2 : (gauge : Gauge) (h : HeadV2) (ask : Result RequestV2 Refusal) (list m m' : List ℕ) (w : Written) (q : RequestV2) (c : WithSources (Option Setting)) → ask ≡ Ok q → 0 ≡ decided_v2 (state_of gauge) ask
+    → Sent m (record { number = 0; reply = frame_v2 (answer_head h (answer_code q)) (text_v2 (state_of gauge) q) }) m' w → ((s : Held) → changed_by s c.value (list_of c.sources) ≡ enter_v2 (state_of gauge).limits s q list)
+    → DecidesV2 (state_of gauge) h ask list m m' (record { written = w; change = c; unlocked = gauge.unlocked })
+unfolding answer_v2 next_v2 accepted_v2 entered_v2 pick
+accepts_v2 gauge h ask list m m' w q c e z f k =
+    let z0 = rw e at (sym z) in
+    rw e (record { sent = rw z0 f; state = rw (z0, k) })
 
 -- ---- V1: a typed request
 
-module _ (gauge : Gauge) (s : List ℕ) (h : HeadV1) (ask : AskV1) (m m' : List ℕ) (w : Written) (r : Decided) where
-  pub refused_v1 : (k : ℕ) → ask ≡ AskV1.Refused k → Made false w r → Sent m (record { number = k; reply = error_v1 k h }) m' w → DecidesV1 (state_of gauge) s h ask m m' r
-  unfolding answer_v1 next_v1
-  refused_v1 k e f t = rw e (record { sent = rw f.2 t; state = stays (state_of gauge) _ w r f })
+pub refused_v1 : (gauge : Gauge) (s : List ℕ) (h : HeadV1) (ask : Result RequestV1 Refusal) (m m' : List ℕ) (w : Written) (r : Decided) (k : Refusal) → refusal_number k ≡ decided_v1 (state_of gauge) ask → Made false w r
+    → Sent m (record { number = refusal_number k; reply = error_v1 (refusal_number k) h }) m' w → DecidesV1 (state_of gauge) s h ask m m' r
+unfolding answer_v1 next_v1 pick
+refused_v1 gauge s h ask m m' w r k e f t =
+    let z = not_0 k _ e in
+    record { sent = rw (f.2, z, ← e) t; state = rw z (stays (state_of gauge) _ w r f) }
 
-  pub denied_v1 : (q : RequestV1) (n : ℕ) → ask ≡ AskV1.Asks q → n ≡ grant_v1 (state_of gauge) q → (n ≡ 0 → ⊥) → Made false w r
-      → Sent m (record { number = n; reply = error_v1 n h }) m' w → DecidesV1 (state_of gauge) s h ask m m' r
-  unfolding answer_v1 next_v1 pick
-  denied_v1 q n e g z f t =
-      let z0 : eqb (grant_v1 (state_of gauge) q) 0 ≡ false = ne_eqb _ 0 (λ o. z (g ∙ o)) in
-      rw e (record { sent = rw (f.2, z0, ← g) t; state = rw z0 (stays (state_of gauge) _ w r f) })
-
-pub granted_v1 : (gauge : Gauge) (s : List ℕ) (h : HeadV1) (ask : AskV1) (m m' : List ℕ) (w : Written) (q : RequestV1) (n : ℕ) (list : Sources) (p : Put) (u : Bool) → ask ≡ AskV1.Asks q → n ≡ grant_v1 (state_of gauge) q → n ≡ 0
-    → Sent m (record { number = 0; reply = pick (repeats q) s (frame_v1 h (text_v1 (state_of gauge) q)) }) m' w → ((l : List ℕ) → changed_by (held gauge.settings) p l ≡ settings_v1 (state_of gauge) q) → u ≡ unlocks q
-    → DecidesV1 (state_of gauge) s h ask m m' (record { written = w; change = record { sources = list; put = p }; unlocked = u })
-unfolding answer_v1 next_v1 settings_v1 pick
-granted_v1 gauge s h ask m m' w q n list p u e g z f k v =
-    let z0 : grant_v1 (state_of gauge) q ≡ 0 = sym g ∙ z in
-    rw e (record { sent = rw z0 f; state = rw (z0, rw z0 at (k (list_of list)), v) })
+pub accepts_v1 : (gauge : Gauge) (s : List ℕ) (h : HeadV1) (ask : Result RequestV1 Refusal) (m m' : List ℕ) (w : Written) (q : RequestV1) (c : WithSources (Option Setting)) (u : Bool) → ask ≡ Ok q → 0 ≡ decided_v1 (state_of gauge) ask
+    → Sent m (record { number = 0; reply = pick (repeats q) s (frame_v1 h (text_v1 (state_of gauge) q)) }) m' w → ((l : List ℕ) → changed_by (held gauge.settings) c.value l ≡ settings_v1 (state_of gauge) q) → u ≡ unlocks q
+    → DecidesV1 (state_of gauge) s h ask m m' (record { written = w; change = c; unlocked = u })
+unfolding answer_v1 next_v1 accepted_v1 entered_v1 asks_unlock decided_v1 settings_v1 pick
+accepts_v1 gauge s h ask m m' w q c u e z f k v =
+    let z0 : grant_v1 (state_of gauge) q ≡ 0 = rw e at (sym z) in
+    rw e (record { sent = rw z0 f; state = rw (z0, rw z0 at (k (list_of c.sources)), v) })
 
 -- ---- any bytes
 
-pub tells_at : (s : List ℕ) (f : Frame) → f ≡ frame_of s → Tells s f
+pub tells_at : (s : List ℕ) (f : Result Frame Refusal) → f ≡ frame_of s → Tells s f
 tells_at s f e = rw e (tells s)
 
-pub numbered_at : (s : List ℕ) (f : Frame) → f ≡ frame_of s → Numbered s f
+pub numbered_at : (s : List ℕ) (f : Result Frame Refusal) → f ≡ frame_of s → Numbered s f
 numbered_at s f e = rw e (numbered s)
 
 pub no_room : (g : State) (room : ℕ) (s : List ℕ) → ltb room answer_room ≡ true → number_of g room s ≡ 1
@@ -115,7 +115,7 @@ module _ (gauge : Gauge) (s m : List ℕ) where
       record { sent = rw f.2 (refuses m k q.0); state = stays (state_of gauge) _ _ r f ∙ sym q.1 }
 
   module _ (m' : List ℕ) (r : Decided) (room : ltb (length m) answer_room ≡ false) (fr : Framed s) (o : other_address (state_of gauge) s ≡ false) where
-    pub v1-answers : (head : HeadV1) (bytes : List ℕ) (ask : AskV1) → is_letter (at s 3) ≡ true → head ≡ head_v1 s → bytes ≡ data_from 4 s → ask ≡ ask_v1 head.letter bytes
+    pub v1-answers : (head : HeadV1) (bytes : List ℕ) (ask : Result RequestV1 Refusal) → is_letter (at s 3) ≡ true → head ≡ head_v1 s → bytes ≡ data_from 4 s → ask ≡ ask_v1 head.letter bytes
         → DecidesV1 (state_of gauge) s head ask m m' r → Decides (state_of gauge) s m m' r
     unfolding head_v1
     v1-answers head bytes ask l e b a h =
@@ -123,7 +123,7 @@ module _ (gauge : Gauge) (s m : List ℕ) where
         let h' = rw (a, b, e) at h in
         record { sent = rw t.0 h'.sent; state = h'.state ∙ sym t.1 }
 
-    pub v2-answers : (head : HeadV2) (bytes : List ℕ) (ask : AskV2) (list : List ℕ) → is_letter (at s 3) ≡ false → wrong_length s ≡ false → head ≡ head_v2 s → bytes ≡ data_from 8 s → ask ≡ ask_v2 (state_of gauge).limits head bytes
+    pub v2-answers : (head : HeadV2) (bytes : List ℕ) (ask : Result RequestV2 Refusal) (list : List ℕ) → is_letter (at s 3) ≡ false → wrong_length s ≡ false → head ≡ head_v2 s → bytes ≡ data_from 8 s → ask ≡ ask_v2 (state_of gauge).limits head bytes
         → list ≡ ask_list (state_of gauge).limits head bytes → DecidesV2 (state_of gauge) head ask list m m' r → Decides (state_of gauge) s m m' r
     v2-answers head bytes ask list l w e b a i h =
         let t = table_v2 (state_of gauge) s l (length m) (number_v2 s (state_of gauge) (length m) room fr o l w) in
@@ -137,7 +137,7 @@ module _ (gauge : Gauge) (s m : List ℕ) where
         record { sent = rw (t.0, f.2) (rw e at h); state = stays (state_of gauge) _ w r f ∙ sym t.1 }
 
 -- what was decided, applied to the gauge
-pub applied : (gauge entered after : Gauge) (s : Settings) (r : Decided) → held s ≡ changed_by (held gauge.settings) r.change.put (list_of r.change.sources) → state_of entered ≡ settled (state_of gauge) (held s)
+pub applied : (gauge entered after : Gauge) (s : Settings) (r : Decided) → held s ≡ changed_by (held gauge.settings) r.change.value (list_of r.change.sources) → state_of entered ≡ settled (state_of gauge) (held s)
     → state_of after ≡ unlocked_as (state_of entered) r.unlocked → state_of after ≡ decided_state (state_of gauge) r
 applied gauge entered after s r k a b = b ∙ ap (λ (x : State). unlocked_as x r.unlocked) (a ∙ ap (settled (state_of gauge)) k)
 

@@ -7,6 +7,7 @@ use native.Mathlib.Omega.{arith}
 use borrow.Author.Tests.{eq-eqb, eqb-true, not-false}
 use lib.Dec.{eqb, ltb, leb}
 use lib.ListN.{length}
+use Rattle.std.specs.Prelude.{Err, Ok, Result}
 use Rattle.buffer.specs.First.{pick}
 use Rattle.buffer.specs.Byte.{within}
 use Rattle.buffer.specs.Answer.{Answer, silent}
@@ -26,29 +27,27 @@ use Rattle.sources.specs.declared.Profile.TheVariants.{Standard}
 use Rattle.settings.specs.Settings.{key_of, factory, put_of}
 use Rattle.settings.specs.declared.Setting.{Setting}
 use Rattle.settings.specs.declared.Setting.TheVariants.{Address, PressureIn, Factor, Control, Cathode, Filament, Switch, Stream}
-use Rattle.forms.specs.declared.Verdict.{Verdict}
-use Rattle.forms.specs.declared.Verdict.TheVariants as verdict
 use Rattle.requests.specs.Command.{restore_code, lacks_access}
 use Rattle.requests.specs.AskV2.{set_of, ask_v2}
 use Rattle.requests.specs.declared.Command.{Command}
 use Rattle.requests.specs.declared.RequestV2.{RequestV2}
 use Rattle.requests.specs.declared.RequestV2.TheVariants.{Read, Restore, Set}
-use Rattle.requests.specs.declared.AskV2.{AskV2}
-use Rattle.requests.specs.declared.AskV2.TheVariants.{Asks, Refused}
 use Rattle.requests.specs.declared.RequestV1.{RequestV1}
 use Rattle.requests.specs.declared.RequestV1.TheVariants.{Measure, ReadFactor, Unlock, SetFactor, ReadUnit, SetUnit}
 use Rattle.request_texts.specs.RequestText.{head_for, data_v2, head_for_v1, data_v1}
 use Rattle.printed_facts.proofs.Fits.{read_le}
 use Rattle.printed_facts.proofs.Sendable.{request_sendable_v2, request_sendable_v1}
 use Rattle.request_writer.specs.Typed.{typed_verdict, formed_v2, formed_v1}
-use Rattle.request_writer.specs.Written.{sent_v2, request_written_v2, request_written_v1}
+use Rattle.request_writer.specs.Written.{sent_v2, sent_v1, request_written_v2, request_written_v1}
 use Rattle.request_reader.specs.Decoded.{from_v2, judged_v1, from_v1, from_frame, request_of, list_from, request_list}
+use Rattle.request_reader.specs.declared.Request.{Request}
 use Rattle.request_reader.specs.declared.Request.TheVariants.{V1, V2}
 use Rattle.settings.proofs.Laws.{factor_is}
 use Rattle.written_facts.specs.Same.{SameV2, SameList}
 use Rattle.written_facts.proofs.Lemmas.Typed.{ListFits, Told, told}
 use Rattle.written_facts.proofs.Lemmas.Asked.{read_asked, restore_asked, set_asked, list_asked, Written, asked_v1_lem}
 use Rattle.written_facts.specs.Again.{BackV2}
+use Rattle.refusals.specs.declared.Refusal.{Refusal}
 
 -- ---- V2: the frame
 
@@ -87,7 +86,7 @@ pub record FormedV2 (limits : ProfileLimits) (address : ℕ) (r : RequestV2) (li
   pub whole : s ≡ frame_v2 (head_for address again) (data_v2 again list)
   pub sendable : within 1 999 address ≡ true
   pub fits : Fits limits again list
-  pub asks : ask_v2 limits (head_for address again) (data_v2 again list) ≡ Asks again
+  pub asks : ask_v2 limits (head_for address again) (data_v2 again list) ≡ Ok again
   pub same : SameV2 r again
 
 -- an answer of the writer that is 0
@@ -95,22 +94,22 @@ abbrev Formed : ProfileLimits → ℕ → List ℕ → RequestV2 → Answer → 
 Formed limits address list r w = w.number ≡ 0 → FormedV2 limits address r list w.reply
 
 module _ (limits : ProfileLimits) (ok : Proper limits) (address : ℕ) (a : within 1 999 address ≡ true) (list : List ℕ) where
-  set_formed : (x : Setting) (v : Verdict) → Told limits x list v → Formed limits address list (Set x) (sent_v2 address (set_of v) list)
+  set_formed : (x : Setting) (v : Result Setting Refusal) → Told limits x list v → Formed limits address list (Set x) (sent_v2 address (set_of v) list)
   unfolding sent_v2 set_of
-  set_formed x (verdict.Set y) h z =
+  set_formed x (Ok y) h z =
       record { again = Set y; whole = refl; sendable = a; fits = h.2; asks = set_asked limits ok address y list h.0 h.2; same = h.1 }
-  set_formed x (verdict.Refused k) h z = absurd (omega (arith, h))
+  set_formed x (Err k) h z = absurd (omega (arith, h))
 
-  restore_formed : (c : Command) → Formed limits address list (Restore c) (sent_v2 address (pick (lacks_access restore_code c) (Refused 9) (Asks (Restore c))) list)
+  restore_formed : (c : Command) → Formed limits address list (Restore c) (sent_v2 address (pick (lacks_access restore_code c) (Err Refusal.Access) (Ok (Restore c))) list)
   unfolding sent_v2
   restore_formed c =
-      each P (lacks_access restore_code c) (Refused 9) (Asks (Restore c)) (λ _ z. absurd (omega arith))
+      each P (lacks_access restore_code c) (Err Refusal.Access) (Ok (Restore c)) (λ _ z. absurd (omega arith))
       (λ e z. record { again = Restore c; whole = refl; sendable = a; fits = tt; asks = restore_asked limits address c list e; same = refl })
     where
-      P : AskV2 → Type 0
+      P : Result RequestV2 Refusal → Type 0
       P f = Formed limits address list (Restore c) (sent_v2 address f list)
 
-  read_formed : (c : Command) → Formed limits address list (Read c) (sent_v2 address (Asks (Read c)) list)
+  read_formed : (c : Command) → Formed limits address list (Read c) (sent_v2 address (Ok (Read c)) list)
   unfolding sent_v2
   read_formed c z = record { again = Read c; whole = refl; sendable = a; fits = tt; asks = read_asked limits address c list; same = refl }
 
@@ -129,18 +128,18 @@ formed limits ok room address r q =
     (λ _. each (Formed limits address (list_of q) r) (not (within 1 999 address)) (silent 4) _ (λ _ z. absurd (omega arith))
     (λ a. sent_formed limits ok address (not-false _ a) r q))
 
-kept : (address : ℕ) (r : RequestV2) → V2 (head_for address r).address r ≡ V2 address r
+kept : (address : ℕ) (r : RequestV2) → ◌≡◌ {A = Result Request Refusal} (Ok (V2 (head_for address r).address r)) (Ok (V2 address r))
 unfolding head_for
 kept address r = refl
 
 module _ {limits : ProfileLimits} (ok : Proper limits) {address : ℕ} {r : RequestV2} {list s : List ℕ} (f : FormedV2 limits address r list s) where
   -- its frame, and what that asks
-  pub frame_is : (frame_of s ≡ frame.V2 (head_for address f.again)) × (data_from 8 s ≡ data_v2 f.again list)
+  pub frame_is : (frame_of s ≡ Ok (frame.V2 (head_for address f.again))) × (data_from 8 s ≡ data_v2 f.again list)
   frame_is =
       let b = framed_v2 limits ok address f.again list f.sendable f.fits in
       rw f.whole (b.head, b.rest)
 
-  read_again : request_of limits s ≡ V2 address f.again
+  read_again : request_of limits s ≡ Ok (V2 address f.again)
   unfolding request_of from_frame from_v2
   read_again = rw (frame_is.0, frame_is.1, f.asks) (kept address f.again)
 
@@ -178,21 +177,7 @@ request_again_v2 limits ok room address r q z =
 pub framed_v1 : (address : ℕ) (r : RequestV1) → within 1 999 address ≡ true → ReadV1 (head_for_v1 address r) (data_v1 r)
 framed_v1 address r a = read_back_v1 _ _ (request_sendable_v1 address r a)
 
--- a request that is formed has its number within the limits
-pub formed_written : (r : RequestV1) → formed_v1 r ≡ 0 → Written r
-unfolding formed_v1
-formed_written Measure e = tt
-formed_written ReadFactor e = tt
-formed_written Unlock e = tt
-formed_written (SetFactor n) e =
-    each P (leb 1000000 n) 10 _ (λ _ z. absurd (omega arith)) (λ _. each P (not (is_factor n)) 11 0 (λ _ z. absurd (omega arith)) (λ f z. within_true _ _ n (not-false _ f))) e
-  where
-    P : ℕ → Type 0
-    P k = k ≡ 0 → Written (SetFactor n)
-formed_written ReadUnit e = tt
-formed_written (SetUnit u) e = tt
-
-judged_again : (address : ℕ) (r : RequestV1) → Written r → judged_v1 address r ≡ V1 address r
+judged_again : (address : ℕ) (r : RequestV1) → Written r → judged_v1 address r ≡ Ok (V1 address r)
 unfolding judged_v1 pick
 judged_again address Measure h = refl
 judged_again address ReadFactor h = refl
@@ -210,20 +195,31 @@ pub record FormedV1 (address : ℕ) (r : RequestV1) (s : List ℕ) : Type 0 wher
 abbrev ForV1 : ℕ → RequestV1 → Answer → Type 0
 ForV1 address r w = w.number ≡ 0 → FormedV1 address r w.reply
 
+sent_formed_v1 : (address : ℕ) → within 1 999 address ≡ true → (r : RequestV1) → ForV1 address r (sent_v1 address (formed_v1 r))
+unfolding formed_v1 sent_v1
+sent_formed_v1 address a Measure z = record { whole = refl; sendable = a; number_in = tt }
+sent_formed_v1 address a ReadFactor z = record { whole = refl; sendable = a; number_in = tt }
+sent_formed_v1 address a Unlock z = record { whole = refl; sendable = a; number_in = tt }
+sent_formed_v1 address a (SetFactor n) z =
+    each P (leb 1000000 n) (Err Refusal.Syntax) _ (λ _ z. absurd (omega arith))
+    (λ _. each P (not (is_factor n)) (Err Refusal.Range) (Ok (SetFactor n)) (λ _ z. absurd (omega arith))
+    (λ f z. record { whole = refl; sendable = a; number_in = within_true _ _ n (not-false _ f) })) z
+  where
+    P : Result RequestV1 Refusal → Type 0
+    P x = ForV1 address (SetFactor n) (sent_v1 address x)
+sent_formed_v1 address a ReadUnit z = record { whole = refl; sendable = a; number_in = tt }
+sent_formed_v1 address a (SetUnit u) z = record { whole = refl; sendable = a; number_in = tt }
+
 -- what the writer wrote, where it answered 0
 pub formed_v1_lem : (room address : ℕ) (r : RequestV1) → (request_written_v1 room address r).number ≡ 0 → FormedV1 address r (request_written_v1 room address r).reply
 unfolding request_written_v1
 formed_v1_lem room address r =
     each (ForV1 address r) (ltb room 109) (silent 1) _ (λ _ z. absurd (omega arith))
     (λ _. each (ForV1 address r) (not (within 1 999 address)) (silent 4) _ (λ _ z. absurd (omega arith))
-    (λ a. each (ForV1 address r) (not (eqb (formed_v1 r) 0)) (silent (formed_v1 r)) _ (λ n z. absurd (wrong n z))
-    (λ e z. record { whole = refl; sendable = not-false _ a; number_in = formed_written r (eqb-true (formed_v1 r) 0 (not-false _ e)) })))
-  where
-    wrong : not (eqb (formed_v1 r) 0) ≡ true → formed_v1 r ≡ 0 → ⊥
-    wrong n z = true≢false (sym n ∙ ap not (eq-eqb (formed_v1 r) 0 z))
+    (λ a. sent_formed_v1 address (not-false _ a) r))
 
 -- for every typed V1 request that the writer accepts, reading what it wrote gives the same request and address
-pub request_again_v1 : (limits : ProfileLimits) (room address : ℕ) (r : RequestV1) → (request_written_v1 room address r).number ≡ 0 → request_of limits (request_written_v1 room address r).reply ≡ V1 address r
+pub request_again_v1 : (limits : ProfileLimits) (room address : ℕ) (r : RequestV1) → (request_written_v1 room address r).number ≡ 0 → request_of limits (request_written_v1 room address r).reply ≡ Ok (V1 address r)
 unfolding request_of from_frame from_v1
 request_again_v1 limits room address r z =
     let w = formed_v1_lem room address r z in

@@ -7,10 +7,10 @@ use native.Mathlib.Omega.{arith}
 use borrow.Author.Tests.{ne_eqb, ltb-true, le-leb}
 use lib.Dec.{eqb, leb, ltb, eqb-suc-zero}
 use lib.ListN.{length}
+use Rattle.std.specs.Prelude.{Err, Ok}
 use Rattle.buffer.specs.First.{pick}
 use Rattle.buffer.specs.Byte.{within, every, leading, starts_with}
 use Rattle.sources.specs.Source.{known_sources, among, all_differ, stand_once, source_text, source_of, list_text}
-use Rattle.sources.specs.declared.Source.TheVariants.{Known, Unknown}
 use Rattle.sources.specs.Entries.{is_formed, is_known, entries_of, entries_number}
 use Rattle.settings.specs.Limits.{ProfileLimits}
 use Rattle.forms.specs.Forms.{idle_list, known_mode, stream_of, stream_data}
@@ -20,6 +20,7 @@ use Rattle.forms_facts.proofs.Lemmas.Lacks.{split}
 use Rattle.forms_facts.proofs.Lemmas.Texts.{texts_of, opens_list, digit_code, source_told, list_number, none_number}
 use Rattle.request_writer.specs.Typed.{typed_stream}
 use Rattle.written_facts.specs.Theorems.{JudgedAlike}
+use Rattle.sources.specs.declared.SourceError.{SourceError}
 
 -- ---- codes of one digit
 
@@ -32,7 +33,7 @@ module _ (codes : List ℕ) (here : every (among known_sources) codes ≡ true) 
   unfolding pick
   told c h = rw (source_told codes c here (digit_code c h)) (go (among codes c))
     where
-      go : (b : Bool) → (is_formed (pick b (Known c) Unknown) ≡ true) × (is_known (pick b (Known c) Unknown) ≡ b)
+      go : (b : Bool) → (is_formed (pick b (Ok c) (Err SourceError.Unknown)) ≡ true) × (is_known (pick b (Ok c) (Err SourceError.Unknown)) ≡ b)
       go true = (refl, refl)
       go false = (refl, refl)
 

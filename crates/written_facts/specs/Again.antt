@@ -1,6 +1,6 @@
 -- Demand 2: "A typed request that the writer accepts, once written and read again, is the same request.": what is written, and what it is to be
 -- read as.
-use Rattle.std.specs.Prelude.{◌≡◌, List, ℕ}
+use Rattle.std.specs.Prelude.{◌≡◌, List, ℕ, Ok}
 use Rattle.buffer.specs.Answer.{Answer}
 use Rattle.sources.specs.Source.{list_of}
 use Rattle.sources.specs.declared.Sources.{Sources}
@@ -25,11 +25,11 @@ written limits room address (in_v2 r q) = request_written_v2 limits room address
 -- bytes that are read as the request r at this address, with this list
 pub record BackV2 (limits : ProfileLimits) (address : ℕ) (r : RequestV2) (list s : List ℕ) : Type 0 where
   pub again : RequestV2
-  pub read : request_of limits s ≡ V2 address again
+  pub read : request_of limits s ≡ Ok (V2 address again)
   pub same : SameV2 r again
   pub listed : SameList r (request_list limits s) list
 
 -- the bytes s are read as this request to this address: V1 by equality; V2 with numbers by value, and the list for a write of SM
 abbrev pub ReadAs : ProfileLimits → ℕ → Typed → List ℕ → Type 0
-ReadAs limits address (in_v1 r) s = request_of limits s ≡ V1 address r
+ReadAs limits address (in_v1 r) s = request_of limits s ≡ Ok (V1 address r)
 ReadAs limits address (in_v2 r q) s = BackV2 limits address r (list_of q) s

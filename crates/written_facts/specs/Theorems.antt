@@ -1,5 +1,5 @@
 -- What is proved here, each statement as a type; proofs/ has the proofs.
-use Rattle.std.specs.Prelude.{◌≡◌, List, ◌∷◌, Bool, true, cond, ℕ, ◌≤◌, ltb}
+use Rattle.std.specs.Prelude.{◌≡◌, List, ◌∷◌, Bool, true, cond, ℕ, ◌≤◌, ltb, Ok, Result}
 use Rattle.frame_writer.specs.Written.{frame_v1, frame_v2}
 use Rattle.requests.specs.declared.RequestV2.{RequestV2}
 use Rattle.requests.specs.declared.RequestV1.{RequestV1}
@@ -7,7 +7,9 @@ use Rattle.request_texts.specs.RequestText.{head_for, data_v2, head_for_v1, data
 use Rattle.request_writer.specs.Written.{writer_room, request_written_v2, request_written_v1}
 use Rattle.request_reader.specs.Decoded.{request_list, Decodes}
 use Rattle.request_reader.specs.declared.Request.TheVariants.{V1, V2}
-use Rattle.request_reader.specs.declared.Decoded.{Decoded}
+use Rattle.request_reader.specs.declared.Request.{Request}
+use Rattle.refusals.specs.declared.Refusal.{Refusal}
+use Rattle.sources.specs.declared.WithSources.{WithSources}
 use Rattle.buffer.specs.Byte.{every}
 use Rattle.sources.specs.Source.{list_text}
 use Rattle.settings.specs.Limits.{ProfileLimits}
@@ -46,12 +48,12 @@ JudgedAlike = (limits : ProfileLimits) → Proper limits → (on : Bool) (list :
 
 -- a request that was read is a good request: the writer accepts it, whatever the bytes were, and writes the one frame that they fix
 abbrev pub AcceptedV2 : Type 0
-AcceptedV2 = (limits : ProfileLimits) (room : ℕ) → writer_room ≤ room → (s : List ℕ) (d : Decoded) → Decodes limits s d → (address : ℕ) (r : RequestV2) → d.request ≡ V2 address r
+AcceptedV2 = (limits : ProfileLimits) (room : ℕ) → writer_room ≤ room → (s : List ℕ) (d : WithSources (Result Request Refusal)) → Decodes limits s d → (address : ℕ) (r : RequestV2) → d.value ≡ Ok (V2 address r)
     → request_written_v2 limits room address r d.sources ≡ record { number = 0; reply = frame_v2 (head_for address r) (data_v2 r (request_list limits s)) }
 
 -- and for V1
 abbrev pub AcceptedV1 : Type 0
-AcceptedV1 = (limits : ProfileLimits) (room : ℕ) → writer_room ≤ room → (s : List ℕ) (d : Decoded) → Decodes limits s d → (address : ℕ) (r : RequestV1) → d.request ≡ V1 address r
+AcceptedV1 = (limits : ProfileLimits) (room : ℕ) → writer_room ≤ room → (s : List ℕ) (d : WithSources (Result Request Refusal)) → Decodes limits s d → (address : ℕ) (r : RequestV1) → d.value ≡ Ok (V1 address r)
     → request_written_v1 room address r ≡ record { number = 0; reply = frame_v1 (head_for_v1 address r) (data_v1 r) }
 
 -- the worked cases: the writer answers and writes what the paper says

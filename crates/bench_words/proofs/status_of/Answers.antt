@@ -1,34 +1,37 @@
 -- `bench_words::status_of` meets its contract.
-use mathlib.Core.Path.{◌≡◌, refl, ◌∙◌, ap}
-use mathlib.Core.List.{[], ◌∷◌}
-use types.Run.{OneOf, miss}
-use denote.Enum.Declared.{tag_of}
-use Rattle.decimal.specs.declared.Parsed.{Parsed}
-use Rattle.decimal.specs.declared.Parsed.TheVariants.{Value, Syntax, Range}
-use Rattle.decimal.specs.contracts.Parsed.{the_type}
-use Rattle.buffer.proofs.Rules.{past, stop}
-use Rattle.bench_words.specs.Inner.{status_in}
-use Rattle.bench_words.specs.Words.{status_of}
-use Rattle.bench_words.specs.declared.Worded.TheVariants.{Refused}
-use Rattle.bench_words.proofs.Laws.{by_hundredths}
-use borrow.Enum.Refused.{opened}
+use mathlib.Core.Path.{◌≡◌, refl, sym, ◌∙◌}
+use Prim.Native.Nat.{◌/◌, ◌%◌, ◌≤◌}
+use native.Mathlib.Omega.{arith}
+use borrow.Author.Tests.{lt-leb}
+use Rattle.std.specs.Prelude.{None, Some}
+use Rattle.buffer.proofs.Rules.{past, stop, not_eqb, not_neqb}
+use Rattle.bench_words.proofs.Laws.{status_in, status_by, over_none, fits, fits_not}
 use Rattle.bench_words.proofs.status_of.Goals as goal
 
--- a number that was not read: its tag is not the first
-other : (p : Parsed) → OneOf (1 ∷ 2 ∷ []) (tag_of the_type p) → Refused ≡ status_of p
-unfolding status_of
-other (Value n) h = absurd (miss (1 ∷ 2 ∷ []) 0 tt h)
-other Syntax h = refl
-other Range h = refl
+pub returns-in_err-h : goal.returns-in_err-h
+unfolding status_in
+returns-in_err-h c =
+    let by = status_by c.args.p c.in_ok-n.n None c.in_ok-n.ensures.value c.if-n.false (sym c.in_hundredths.ensures ∙ c.in_err-h.was) in
+    c.from_residual-in_err-h.ensures ∙ sym by
 
-pub returns-in_default : goal.returns-in_default
-unfolding status_of
-returns-in_default c = other c.args.p (opened c.in_default.in_default-own.keys2)
+pub returns-then-h-ne0 : goal.returns-then-h-ne0
+unfolding status_in
+returns-then-h-ne0 c =
+    let h = c.in_ok-h.h in
+    let by = status_by c.args.p c.in_ok-n.n (Some h) c.in_ok-n.ensures.value c.if-n.false (sym c.in_hundredths.ensures ∙ c.in_ok-h.was) in
+    rw by (stop _ _ _ _ (not_neqb (h % 100) 0 (λ (e : h % 100 ≡ 0). c.if-h-ne0.true (omega arith))) refl)
 
-pub returns-then-n : goal.returns-then-n
-unfolding status_of
-returns-then-n c = rw c.in-Value.is (stop _ _ _ _ c.if-n.true refl)
+pub returns-in_err-status : goal.returns-in_err-status
+returns-in_err-status c =
+    let h = c.in_ok-h.h in
+    let by = status_by c.args.p c.in_ok-n.n (Some h) c.in_ok-n.ensures.value c.if-n.false (sym c.in_hundredths.ensures ∙ c.in_ok-h.was) in
+    let over : 25600 ≤ h = omega (arith, fits_not c.try_from.result (h / 100) c.try_from.ensures c.in_err-status.ensures.variant) in
+    rw (c.from_residual-in_err-status.ensures, by, over_none h over)
 
 pub returns : goal.returns
-unfolding status_of
-returns c = rw c.in-Value.is (past _ _ _ _ c.if-n.false (c.status_in.ensures ∙ ap status_in c.in_hundredths.ensures ∙ by_hundredths _))
+unfolding status_in
+returns c =
+    let h = c.in_ok-h.h in
+    let by = status_by c.args.p c.in_ok-n.n (Some h) c.in_ok-n.ensures.value c.if-n.false (sym c.in_hundredths.ensures ∙ c.in_ok-h.was) in
+    let w = fits c.try_from.result (h / 100) c.in_ok-status.status c.try_from.ensures c.in_ok-status.ensures.value in
+    rw (by, w.1) (past _ _ _ _ (not_eqb _ _ c.if-h-ne0.false) (past _ _ _ _ (lt-leb 25600 h (omega (arith, w.0))) refl))

@@ -18,9 +18,6 @@ three : (b : ℕ) (s : List ℕ) (i : ℕ) → Passed b s i → i + 3 < length s
     → Passed b s (i + 3)
 three b s i p h x y z = pass _ s _ _ (omega arith) z (omega arith) (two b s i p h x y)
 
-pub loop-i-init : goal.loop-i-init
-loop-i-init c = (omega arith, omega arith)
-
 pub returns-then-s-i-2 : goal.returns-then-s-i-2
 returns-then-s-i-2 c = one _ c.args.s.now _ c.loop-i.invariant (omega arith) c.if-s-i.false
 

@@ -8,9 +8,6 @@ use lib.ListN.{get_or}
 use Rattle.buffer.proofs.Laws.{pass, until_step, until_end}
 use Rattle.buffer.proofs.until.Goals as goal
 
-pub loop-i-init : goal.loop-i-init
-loop-i-init c = c.passed_by_fours-i.ensures
-
 pub returns-then-s-i : goal.returns-then-s-i
 returns-then-s-i c =
     let l = c.loop-i in

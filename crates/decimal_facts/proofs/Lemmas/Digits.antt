@@ -2,16 +2,16 @@
 use mathlib.Core.Path.{◌≡◌, refl, sym, ◌∙◌}
 use mathlib.Core.Bool.{Bool, true, false, cond, ◌&&◌, true≢false}
 use mathlib.Core.List.{List, [], ◌∷◌, ◌++◌}
-use Prim.Native.Nat.{ℕ, ◌+◌, ◌-◌, ◌*◌, ◌^◌, ◌≤◌}
-use native.Mathlib.Nat.{pow-suc}
+use Prim.Native.Nat.{ℕ, ◌+◌, ◌*◌, ◌^◌, ◌≤◌}
 use native.Mathlib.Numerals.{add-one}
 use native.Mathlib.Omega.{arith}
 use borrow.Author.Tests.{leb-true}
 use lib.Dec.{leb}
 use lib.ListN.{length, take, length-take}
 use Rattle.buffer.specs.First.{pick}
-use Rattle.buffer.specs.Byte.{at, within, is_digit, every, numeral_from, numeral, leading}
+use Rattle.buffer.specs.Byte.{at, within, is_digit, every, numeral, leading}
 use Rattle.buffer.proofs.Laws.{leading_le}
+use Rattle.decimal.proofs.Laws.{numeral_on, numeral_after}
 
 -- ---- tests
 
@@ -58,19 +58,8 @@ leading_length s = simp length-take (omega (arith, leading_le s))
 
 -- ---- numerals
 
-numeral_join : (v : ℕ) (a b : List ℕ) → numeral_from v (a ++ b) ≡ numeral_from (numeral_from v a) b
-unfolding numeral_from
-numeral_join v [] b = refl
-numeral_join v (x ∷ a) b = numeral_join (v * 10 + (x - 48)) a b
-
--- what stands before counts 10 ^ length times
-numeral_after : (v : ℕ) (b : List ℕ) → numeral_from v b ≡ v * 10 ^ length b + numeral b
-unfolding numeral_from
-numeral_after v [] = omega arith
-numeral_after v (x ∷ b) = rw (numeral_after (v * 10 + (x - 48)) b, numeral_after (0 + (x - 48)) b, pow-suc 10 (length b)) (omega arith)
-
 pub numeral_append : (a b : List ℕ) → numeral (a ++ b) ≡ numeral a * 10 ^ length b + numeral b
-numeral_append a b = numeral_join 0 a b ∙ numeral_after (numeral a) b
+numeral_append a b = numeral_on 0 a b ∙ numeral_after (numeral a) b
 
 -- ---- ordered tests
 

@@ -10,12 +10,11 @@ use borrow.Author.Tests.{le-ltb, lt-leb, ne_eqb, ltb-false, leb-false, eqb-true}
 use lib.Dec.{ltb, leb, eqb, eqb-suc-zero}
 use lib.ListN.{length, take, drop, take-append-drop}
 use lib.Seq.{take-length, take-append_seam, drop-append_seam}
+use Rattle.std.specs.Prelude.{None, Option, Some}
 use Rattle.buffer.specs.First.{pick}
 use Rattle.buffer.specs.Byte.{at, within, is_digit, every, numeral, numeral_from, leading, starts_with}
 use Rattle.decimal.specs.Form.{power_of, exponent_of, fraction_of, unsigned_of, scan_of}
 use Rattle.decimal.specs.declared.Exact.{Exact}
-use Rattle.decimal.specs.declared.Scan.{Scan}
-use Rattle.decimal.specs.declared.Scan.TheVariants.{Of, NoForm}
 use Rattle.buffer.proofs.Laws.{leading_le}
 use Rattle.decimal_facts.specs.Grammar.{Parts, Good, dash, point, exponent, spelled_of, meaning}
 use Rattle.decimal_facts.proofs.Lemmas.Digits.{digit_low, both_left, leading_at, leading_digits, leading_length, numeral_append, passed}
@@ -35,12 +34,12 @@ plain negative d k = record { negative = negative; digits = d; up = 0; down = k 
 abbrev raised : Exact → Bool → List ℕ → Exact
 raised x below s = record { negative = x.negative; digits = x.digits; up = cond below 0 (numeral s); down = x.down + cond below (numeral s) 0 }
 
-power_reads : (s : List ℕ) (x : Exact) (below : Bool) → every is_digit s ≡ true → 1 ≤ length s → length s ≤ 2 → power_of s x below ≡ Of (raised x below s)
+power_reads : (s : List ℕ) (x : Exact) (below : Bool) → every is_digit s ≡ true → 1 ≤ length s → length s ≤ 2 → power_of s x below ≡ Some (raised x below s)
 unfolding power_of pick
 power_reads s x below e h k =
     rw (leading_all s e, le-ltb (length s) 1 h, lt-leb 3 (length s) (omega arith), le-ltb (length s) (length s) (omega arith), take-length s) (go below)
   where
-    go : (b : Bool) → pick b (Of (raised x true s)) (Of (record { negative = x.negative; digits = x.digits; up = numeral s; down = x.down })) ≡ Of (raised x b s)
+    go : (b : Bool) → pick b (Some (raised x true s)) (Some (record { negative = x.negative; digits = x.digits; up = numeral s; down = x.down })) ≡ Some (raised x b s)
     go true = refl
     go false = rw (add-zero x.down)
 
@@ -58,7 +57,7 @@ module _ (mark : ℕ) (m : (mark ≡ 101) ⊎ (mark ≡ 69)) where
   is_mark = by_mark (λ k. eqb k 101 || eqb k 69) true mark refl refl m
 
   exponent_reads : (below : Bool) (s : List ℕ) (negative : Bool) (d k : ℕ) → every is_digit s ≡ true → length s ≤ 2
-      → exponent_of (exponent mark below s) (plain negative d k) ≡ Of (raised (plain negative d k) below s)
+      → exponent_of (exponent mark below s) (plain negative d k) ≡ Some (raised (plain negative d k) below s)
   unfolding exponent_of exponent pick starts_with numeral_from dash every
   exponent_reads true [] negative d k e h = rw (add-zero k)
   exponent_reads false [] negative d k e h = rw (add-zero k)
@@ -95,7 +94,7 @@ whole_reads w t negative e g h k =
 pub unsigned_reads : (w f : List ℕ) (mark : ℕ) (below : Bool) (s : List ℕ) (negative : Bool)
     → Good (record { negative = negative; whole = w; fraction = f; mark = mark; below = below; power = s })
     → unsigned_of (w ++ (point f ++ exponent mark below s)) negative
-    ≡ Of (meaning (record { negative = negative; whole = w; fraction = f; mark = mark; below = below; power = s }))
+    ≡ Some (meaning (record { negative = negative; whole = w; fraction = f; mark = mark; below = below; power = s }))
 unfolding pick point meaning within starts_with
 unsigned_reads w [] mark below s negative g =
     whole_reads w (exponent mark below s) negative g.whole_digits (mark_ends mark g.marked below s) g.some (omega arith)
@@ -119,19 +118,16 @@ signed false u e = rw e
 
 -- ---- from the reader to the form
 
-none_of : (y : Exact) → NoForm ≡ Of y → ⊥
-none_of y e = let z : ◌≡◌ {A = ℕ} 0 1 = cc in omega arith
-
 -- a row that refuses was passed
-past : (t : Bool) (r : Scan) (y : Exact) → pick t NoForm r ≡ Of y → (t ≡ false) × (r ≡ Of y)
-past t r y e = passed t NoForm r (Of y) (none_of y) e
+past : (t : Bool) (r : Option Exact) (y : Exact) → pick t None r ≡ Some y → (t ≡ false) × (r ≡ Some y)
+past t r y e = passed t None r (Some y) (λ n. cc) e
 
 record Power (s : List ℕ) : Type 0 where
   digits : every is_digit s ≡ true
   some : 1 ≤ length s
   two : length s ≤ 2
 
-power_shape : (s : List ℕ) (x : Exact) (below : Bool) (y : Exact) → power_of s x below ≡ Of y → Power s
+power_shape : (s : List ℕ) (x : Exact) (below : Bool) (y : Exact) → power_of s x below ≡ Some y → Power s
 unfolding power_of
 power_shape s x below y e =
     let a = past (ltb (leading s) 1) _ y e in
@@ -169,16 +165,16 @@ mark_of b e = go (eqb b 101) refl (eqb b 69) refl e
     go false f false g h = absurd (true≢false h)
 
 -- after the mark
-mark_shape : (b : ℕ) (s : List ℕ) (x y : Exact) → (b ≡ 101) ⊎ (b ≡ 69) → pick (starts_with 45 s) (power_of (drop 1 s) x true) (power_of s x false) ≡ Of y → Tail (b ∷ s)
+mark_shape : (b : ℕ) (s : List ℕ) (x y : Exact) → (b ≡ 101) ⊎ (b ≡ 69) → pick (starts_with 45 s) (power_of (drop 1 s) x true) (power_of s x false) ≡ Some y → Tail (b ∷ s)
 unfolding pick starts_with dash
 mark_shape b [] x y m e = tail_of_lem b false [] m (power_shape [] x false y e)
 mark_shape b (c ∷ s) x y m e = go (eqb c 45) refl e
   where
-    go : (t : Bool) → eqb c 45 ≡ t → pick t (power_of s x true) (power_of (c ∷ s) x false) ≡ Of y → Tail (b ∷ c ∷ s)
+    go : (t : Bool) → eqb c 45 ≡ t → pick t (power_of s x true) (power_of (c ∷ s) x false) ≡ Some y → Tail (b ∷ c ∷ s)
     go true f g = rw (eqb-true c 45 f) (tail_of_lem b true s m (power_shape s x true y g))
     go false f g = tail_of_lem b false (c ∷ s) m (power_shape (c ∷ s) x false y g)
 
-exponent_shape : (s : List ℕ) (x y : Exact) → exponent_of s x ≡ Of y → Tail s
+exponent_shape : (s : List ℕ) (x y : Exact) → exponent_of s x ≡ Some y → Tail s
 unfolding exponent_of exponent every pick starts_with
 exponent_shape [] x y e = record { mark = 101; below = false; power = []; digits = refl; two = omega arith; marked = inl refl; text = refl }
 exponent_shape (b ∷ s) x y e =
@@ -198,7 +194,7 @@ record Fraction (s : List ℕ) (n : ℕ) : Type 0 where
   six : n + leading s ≤ 6
   tail : Tail (drop (leading s) s)
 
-fraction_shape : (s : List ℕ) (x : Exact) (n : ℕ) (y : Exact) → fraction_of s x n ≡ Of y → Fraction s n
+fraction_shape : (s : List ℕ) (x : Exact) (n : ℕ) (y : Exact) → fraction_of s x n ≡ Some y → Fraction s n
 unfolding fraction_of
 fraction_shape s x n y e =
     let a = past (ltb (leading s) 1) _ y e in
@@ -255,16 +251,16 @@ module _ (negative : Bool) (w : List ℕ) (e : every is_digit w ≡ true) (n : �
         text = rw (r.tail.text, point_some (take (leading t) t) (omega (arith, leading_length t, r.some)), take-append-drop (leading t) t);
       }
 
-  body_of : (t : List ℕ) (x y : Exact) → pick (starts_with 46 t) (fraction_of (drop 1 t) x n) (exponent_of t x) ≡ Of y → Body negative (w ++ t)
+  body_of : (t : List ℕ) (x y : Exact) → pick (starts_with 46 t) (fraction_of (drop 1 t) x n) (exponent_of t x) ≡ Some y → Body negative (w ++ t)
   unfolding pick starts_with
   body_of [] x y f = body_plain [] (exponent_shape [] x y f)
   body_of (c ∷ t) x y f = go (eqb c 46) refl f
     where
-      go : (b : Bool) → eqb c 46 ≡ b → pick b (fraction_of t x n) (exponent_of (c ∷ t) x) ≡ Of y → Body negative (w ++ (c ∷ t))
+      go : (b : Bool) → eqb c 46 ≡ b → pick b (fraction_of t x n) (exponent_of (c ∷ t) x) ≡ Some y → Body negative (w ++ (c ∷ t))
       go true z g = rw (eqb-true c 46 z) (body_pointed t (fraction_shape t x n y g))
       go false z g = body_plain (c ∷ t) (exponent_shape (c ∷ t) x y g)
 
-unsigned_shape : (s : List ℕ) (negative : Bool) (y : Exact) → unsigned_of s negative ≡ Of y → Body negative s
+unsigned_shape : (s : List ℕ) (negative : Bool) (y : Exact) → unsigned_of s negative ≡ Some y → Body negative s
 unfolding unsigned_of
 unsigned_shape s negative y e =
     let a = past (ltb (leading s) 1) _ y e in
@@ -280,11 +276,11 @@ signed_shape b u r =
     let p = r.parts in
     (p, r.good, rw (append_assoc (dash p.negative ++ p.whole) (point p.fraction), append_assoc (dash p.negative) p.whole, r.text, r.sign))
 
-pub shape : (s : List ℕ) (y : Exact) → scan_of s ≡ Of y → (p : Parts) × Good p × (spelled_of p ≡ s)
+pub shape : (s : List ℕ) (y : Exact) → scan_of s ≡ Some y → (p : Parts) × Good p × (spelled_of p ≡ s)
 unfolding scan_of starts_with pick dash
 shape [] y e = signed_shape false [] (unsigned_shape [] false y e)
 shape (c ∷ s) y e = go (eqb c 45) refl e
   where
-    go : (b : Bool) → eqb c 45 ≡ b → pick b (unsigned_of s true) (unsigned_of (c ∷ s) false) ≡ Of y → (p : Parts) × Good p × (spelled_of p ≡ c ∷ s)
+    go : (b : Bool) → eqb c 45 ≡ b → pick b (unsigned_of s true) (unsigned_of (c ∷ s) false) ≡ Some y → (p : Parts) × Good p × (spelled_of p ≡ c ∷ s)
     go true z g = rw (eqb-true c 45 z) (signed_shape true s (unsigned_shape s true y g))
     go false z g = signed_shape false (c ∷ s) (unsigned_shape (c ∷ s) false y g)

@@ -8,19 +8,17 @@ use native.Mathlib.Omega.{arith}
 use borrow.Author.Tests.{lt-leb, ltb-true, ltb-false, leb-true, leb-false, eqb-true, eqb-false, not-true, not-false}
 use lib.Dec.{ltb, leb, eqb}
 use lib.Pow.{pow-add}
+use Rattle.std.specs.Prelude.{Err, None, Ok, Option, Result, Some}
 use Rattle.buffer.specs.First.{pick}
 use Rattle.buffer.proofs.Rules.{each}
 use Rattle.decimal.specs.Exact.{units, zero_number, size_of, normal_of}
 use Rattle.decimal.specs.Number.{counted_of, hundredths_of}
 use Rattle.decimal.specs.declared.Number.{Number}
-use Rattle.decimal.specs.declared.Hundredths.{Hundredths}
-use Rattle.decimal.specs.declared.Hundredths.TheVariants.{Whole, Other}
 use Rattle.decimal.specs.declared.Exact.{Exact}
-use Rattle.decimal.specs.declared.Parsed.{Parsed}
-use Rattle.decimal.specs.declared.Parsed.TheVariants.{Value, Syntax, Range}
 use Rattle.decimal.proofs.Sizes.{ten_pos, size_low, size_high, units_pos}
 use Rattle.decimal_facts.specs.Canonical.{Full, Canonical, Exactly, TooSmall, TooLarge, SixDigits, ParsesAs, nothing, number, outside, uneven}
 use Rattle.decimal_facts.proofs.Lemmas.Powers.{six_low, six_high, six_same, six_equal, six_divides, small, large, not_small, not_large, units_low, units_high, same_place, same_mantissa}
+use Rattle.decimal.specs.declared.NumberError.{NumberError}
 
 -- ---- the rows of `normal_of`
 
@@ -37,7 +35,7 @@ module _ (x : Exact) (a : eqb x.digits 0 ≡ false) where
   some : 0 < x.digits
   some = omega (arith, eqb-false x.digits 0 a)
 
-  row_uneven : not (eqb (x.digits * 10 ^ 6 % 10 ^ size_of x.digits) 0) ≡ true → ParsesAs x Syntax
+  row_uneven : not (eqb (x.digits * 10 ^ 6 % 10 ^ size_of x.digits) 0) ≡ true → ParsesAs x (Err NumberError.Syntax)
   row_uneven b = uneven some (λ w. eqb-false (x.digits * 10 ^ 6 % 10 ^ size_of x.digits) 0 (not-true _ b) (six_divides x.digits some w))
 
   module _ (b : not (eqb (x.digits * 10 ^ 6 % 10 ^ size_of x.digits) 0) ≡ false) where
@@ -49,13 +47,13 @@ module _ (x : Exact) (a : eqb x.digits 0 ≡ false) where
     six : SixDigits x.digits
     six = six_equal _ (size_of x.digits) x.digits 6 (six_high x.digits (size_of x.digits) _ whole (size_high x.digits)) whole
 
-    row_small : ltb (size_of x.digits + 8 + x.up) x.down ≡ true → ParsesAs x Range
+    row_small : ltb (size_of x.digits + 8 + x.up) x.down ≡ true → ParsesAs x (Err NumberError.Range)
     row_small c = outside some six (inl (small x.digits (size_of x.digits) x.up x.down (size_high x.digits) (ltb-true _ _ c)))
 
-    row-large : leb (x.down + 19) (size_of x.digits + 8 + x.up) ≡ true → ParsesAs x Range
+    row-large : leb (x.down + 19) (size_of x.digits + 8 + x.up) ≡ true → ParsesAs x (Err NumberError.Range)
     row-large c = outside some six (inr (large x.digits (size_of x.digits) x.up x.down (size_low x.digits some) (leb-true _ _ c)))
 
-    row_number : ltb (size_of x.digits + 8 + x.up) x.down ≡ false → leb (x.down + 19) (size_of x.digits + 8 + x.up) ≡ false → ParsesAs x (Value (six_of x))
+    row_number : ltb (size_of x.digits + 8 + x.up) x.down ≡ false → leb (x.down + 19) (size_of x.digits + 8 + x.up) ≡ false → ParsesAs x (Ok (six_of x))
     unfolding units
     row_number c e =
         let l = ltb-false (size_of x.digits + 8 + x.up) x.down c in
@@ -71,10 +69,10 @@ module _ (x : Exact) (a : eqb x.digits 0 ≡ false) where
 pub rows : (x : Exact) → ParsesAs x (normal_of x)
 unfolding normal_of
 rows x =
-    each (ParsesAs x) (eqb x.digits 0) (Value zero_number) _ (λ a. nothing (eqb-true x.digits 0 a))
-    (λ a. each (ParsesAs x) (not (eqb (x.digits * 10 ^ 6 % 10 ^ size_of x.digits) 0)) Syntax _ (row_uneven x a)
-    (λ b. each (ParsesAs x) (ltb (size_of x.digits + 8 + x.up) x.down) Range _ (row_small x a b)
-    (λ c. each (ParsesAs x) (leb (x.down + 19) (size_of x.digits + 8 + x.up)) Range _ (row-large x a b) (row_number x a b c))))
+    each (ParsesAs x) (eqb x.digits 0) (Ok zero_number) _ (λ a. nothing (eqb-true x.digits 0 a))
+    (λ a. each (ParsesAs x) (not (eqb (x.digits * 10 ^ 6 % 10 ^ size_of x.digits) 0)) (Err NumberError.Syntax) _ (row_uneven x a)
+    (λ b. each (ParsesAs x) (ltb (size_of x.digits + 8 + x.up) x.down) (Err NumberError.Range) _ (row_small x a b)
+    (λ c. each (ParsesAs x) (leb (x.down + 19) (size_of x.digits + 8 + x.up)) (Err NumberError.Range) _ (row-large x a b) (row_number x a b c))))
 
 -- ---- one value has one number
 
@@ -138,15 +136,6 @@ exactly_within x n h f w = go (exactly_full x n h f) w
     go g (inl k) = not_small (units n) x.digits x.up x.down f.size (units_low n.mantissa n.place g.low) k
     go g (inr k) = not_large (units n) x.digits x.up x.down f.size (units_high n.mantissa n.place g.high (omega (arith, g.place))) k
 
-syntax_value : (n : Number) → Syntax ≡ Value n → ⊥
-syntax_value n e = let z : ◌≡◌ {A = ℕ} 0 1 = cc in omega arith
-
-range_value : (n : Number) → Range ≡ Value n → ⊥
-range_value n e = let z : ◌≡◌ {A = ℕ} 0 1 = cc in omega arith
-
-range_syntax : Range ≡ Syntax → ⊥
-range_syntax e = let z : ◌≡◌ {A = ℕ} 0 1 = cc in omega arith
-
 -- zero is the number of no digits, and of them alone
 pub zero_exactly : (x : Exact) → x.digits ≡ 0 → Exactly x zero_number
 unfolding units
@@ -166,39 +155,39 @@ exactly_zero x n z f = go f.canonical
     go (inl e) = sym e
     go (inr g) = absurd (omega (arith, mul-pos (full_some n g) (ten_pos x.down), rw z at f.size))
 
-pub answered_exactly : (x : Exact) (n : Number) (r : Parsed) → ParsesAs x r → r ≡ Value n → Exactly x n
+pub answered_exactly : (x : Exact) (n : Number) (r : Result Number NumberError) → ParsesAs x r → r ≡ Ok n → Exactly x n
 answered_exactly x n r (nothing z) e = let w : zero_number ≡ n = cc in rw (← w) (zero_exactly x z)
 answered_exactly x n r (number m h f) e = let w : m ≡ n = cc in rw (← w) f
-answered_exactly x n r (outside h w o) e = absurd (range_value n e)
-answered_exactly x n r (uneven h w) e = absurd (syntax_value n e)
+answered_exactly x n r (outside h w o) e = cc
+answered_exactly x n r (uneven h w) e = cc
 
-pub exactly_answered : (x : Exact) (n : Number) (r : Parsed) → ParsesAs x r → Exactly x n → r ≡ Value n
-exactly_answered x n r (nothing z) f = ap Value (exactly_zero x n z f)
-exactly_answered x n r (number m h g) f = ap Value (exactly_same x m n h g f)
+pub exactly_answered : (x : Exact) (n : Number) (r : Result Number NumberError) → ParsesAs x r → Exactly x n → r ≡ Ok n
+exactly_answered x n r (nothing z) f = ap Ok (exactly_zero x n z f)
+exactly_answered x n r (number m h g) f = ap Ok (exactly_same x m n h g f)
 exactly_answered x n r (outside h w o) f = absurd (exactly_within x n h f o)
 exactly_answered x n r (uneven h w) f = absurd (w (exactly_six x n h f))
 
 -- ---- RANGE and SYNTAX
 
-pub range_outside : (x : Exact) (r : Parsed) → ParsesAs x r → r ≡ Range → (0 < x.digits) × SixDigits x.digits × (TooSmall x ⊎ TooLarge x)
-range_outside x r (nothing z) e = absurd (range_value zero_number (sym e))
-range_outside x r (number n h f) e = absurd (range_value n (sym e))
+pub range_outside : (x : Exact) (r : Result Number NumberError) → ParsesAs x r → r ≡ Err NumberError.Range → (0 < x.digits) × SixDigits x.digits × (TooSmall x ⊎ TooLarge x)
+range_outside x r (nothing z) e = cc
+range_outside x r (number n h f) e = cc
 range_outside x r (outside h w o) e = (h, w, o)
-range_outside x r (uneven h w) e = absurd (range_syntax (sym e))
+range_outside x r (uneven h w) e = cc
 
-pub outside_range : (x : Exact) (r : Parsed) → 0 < x.digits → SixDigits x.digits → ParsesAs x r → TooSmall x ⊎ TooLarge x → r ≡ Range
+pub outside_range : (x : Exact) (r : Result Number NumberError) → 0 < x.digits → SixDigits x.digits → ParsesAs x r → TooSmall x ⊎ TooLarge x → r ≡ Err NumberError.Range
 outside_range x r g s (nothing z) o = absurd (omega arith)
 outside_range x r g s (number n h f) o = absurd (exactly_within x n h f o)
 outside_range x r g s (outside h w k) o = refl
 outside_range x r g s (uneven h w) o = absurd (w s)
 
-pub syntax_six : (x : Exact) (r : Parsed) → ParsesAs x r → r ≡ Syntax → (0 < x.digits) × (SixDigits x.digits → ⊥)
-syntax_six x r (nothing z) e = absurd (syntax_value zero_number (sym e))
-syntax_six x r (number n h f) e = absurd (syntax_value n (sym e))
-syntax_six x r (outside h w o) e = absurd (range_syntax e)
+pub syntax_six : (x : Exact) (r : Result Number NumberError) → ParsesAs x r → r ≡ Err NumberError.Syntax → (0 < x.digits) × (SixDigits x.digits → ⊥)
+syntax_six x r (nothing z) e = cc
+syntax_six x r (number n h f) e = cc
+syntax_six x r (outside h w o) e = cc
 syntax_six x r (uneven h w) e = (h, w)
 
-pub six_syntax : (x : Exact) (r : Parsed) → 0 < x.digits → ParsesAs x r → (SixDigits x.digits → ⊥) → r ≡ Syntax
+pub six_syntax : (x : Exact) (r : Result Number NumberError) → 0 < x.digits → ParsesAs x r → (SixDigits x.digits → ⊥) → r ≡ Err NumberError.Syntax
 six_syntax x r g (nothing z) s = absurd (omega arith)
 six_syntax x r g (number n h f) s = absurd (s (exactly_six x n h f))
 six_syntax x r g (outside h w o) s = absurd (s w)
@@ -206,17 +195,17 @@ six_syntax x r g (uneven h w) s = refl
 
 -- ---- hundredths
 
-pub hundredths_of_lem : (n : Number) (h : ℕ) → units n ≡ h * 10 ^ 12 → h < 2 ^ 32 → hundredths_of n ≡ Whole h
+pub hundredths_of_lem : (n : Number) (h : ℕ) → units n ≡ h * 10 ^ 12 → h < 2 ^ 32 → hundredths_of n ≡ Some h
 unfolding hundredths_of counted_of pick
 hundredths_of_lem n h e k = rw (e, mul-mod_left h (10 ^ 12), mul-div_left h (ten_pos 12), lt-leb (2 ^ 32) h k)
 
-abbrev Counted : Number → Hundredths → Type 0
-Counted n (Whole h) = (units n ≡ h * 10 ^ 12) × (h < 2 ^ 32)
-Counted n Other = Unit {0}
+abbrev Counted : Number → Option ℕ → Type 0
+Counted n (Some h) = (units n ≡ h * 10 ^ 12) × (h < 2 ^ 32)
+Counted n None = Unit {0}
 
 pub counted : (n : Number) → Counted n (hundredths_of n)
 unfolding hundredths_of counted_of
 counted n =
-    each (Counted n) (not (eqb (units n % 10 ^ 12) 0)) Other _ (λ _. tt)
-    (λ e. each (Counted n) (leb (2 ^ 32) (units n / 10 ^ 12)) Other (Whole (units n / 10 ^ 12)) (λ _. tt)
+    each (Counted n) (not (eqb (units n % 10 ^ 12) 0)) None _ (λ _. tt)
+    (λ e. each (Counted n) (leb (2 ^ 32) (units n / 10 ^ 12)) None (Some (units n / 10 ^ 12)) (λ _. tt)
     (λ f. (let z = eqb-true (units n % 10 ^ 12) 0 (not-false _ e) in omega arith, leb-false (2 ^ 32) (units n / 10 ^ 12) f)))

@@ -9,6 +9,7 @@ use native.Mathlib.Omega.{arith}
 use borrow.Author.Tests.{le-leb, ne_eqb, ltb-true, ltb-false, eqb-true}
 use lib.Dec.{ltb, eqb}
 use lib.ListN.{length}
+use Rattle.std.specs.Prelude.{Ok, Result, Some}
 use Rattle.buffer.specs.First.{pick}
 use Rattle.buffer.specs.Byte.{within, is_digit, every, numeral_from, numeral, digit, digits2, digits3, leading, starts_with}
 use Rattle.buffer.proofs.Rules.{each}
@@ -16,9 +17,6 @@ use Rattle.decimal.specs.Exact.{units, zero_number, size_of, normal_of}
 use Rattle.decimal.specs.Form.{exponent_of, unsigned_of, scan_of, parsed_of, number_of}
 use Rattle.decimal.specs.Number.{hundredths_of}
 use Rattle.decimal.specs.declared.Number.{Number}
-use Rattle.decimal.specs.declared.Parsed.{Parsed}
-use Rattle.decimal.specs.declared.Parsed.TheVariants.{Value}
-use Rattle.decimal.specs.declared.Hundredths.TheVariants.{Whole}
 use Rattle.decimal_text.specs.Written.{sign_text, trimmed, pointed, digits5, exponent_text, written_of, whole_text, two_decimals}
 use Rattle.decimal_text.proofs.Laws.{trim_le}
 use Rattle.decimal_facts.specs.Grammar.{Parts, Good, dash, point, exponent, spelled_of, meaning}
@@ -26,6 +24,7 @@ use Rattle.decimal_facts.specs.Canonical.{Full, Exactly, ParsesAs, nothing, numb
 use Rattle.decimal_facts.proofs.Lemmas.Digits.{both_left, both_right, numeral_append}
 use Rattle.decimal_facts.proofs.Lemmas.Powers.{moved_same}
 use Rattle.decimal_facts.proofs.Lemmas.Rows.{hundredths_of_lem}
+use Rattle.decimal.specs.declared.NumberError.{NumberError}
 
 -- ---- the written form
 
@@ -146,7 +145,7 @@ written_exactly n f =
       sign = λ _. refl;
     }
 
-pub zero_reads : number_of (written_of zero_number) ≡ Value zero_number
+pub zero_reads : number_of (written_of zero_number) ≡ Ok zero_number
 unfolding number_of parsed_of scan_of unsigned_of exponent_of leading starts_with normal_of size_of pick within numeral_from written_of
 zero_reads = refl
 
@@ -220,10 +219,10 @@ decimals_mean negative h k =
     rw d
 
 -- r is a number of h hundredths, negative where it should be
-abbrev Counted : Bool → ℕ → Parsed → Type 0
-Counted negative h r = (n : Number) × (r ≡ Value n) × (hundredths_of n ≡ Whole h) × (0 < h → n.negative ≡ negative)
+abbrev Counted : Bool → ℕ → Result Number NumberError → Type 0
+Counted negative h r = (n : Number) × (r ≡ Ok n) × (hundredths_of n ≡ Some h) × (0 < h → n.negative ≡ negative)
 
-pub decimals_count : (negative : Bool) (h : ℕ) (r : Parsed) → h < 100000
+pub decimals_count : (negative : Bool) (h : ℕ) (r : Result Number NumberError) → h < 100000
     → ParsesAs (record { negative = cond (eqb h 0) false negative; digits = h; up = 0; down = 2 }) r → Counted negative h r
 unfolding units
 decimals_count negative h r k (nothing z) = (zero_number, refl, hundredths_of_lem zero_number h (omega arith) (omega arith), λ (g : 0 < h). absurd (omega arith))

@@ -8,6 +8,7 @@ use borrow.Author.Tests.{eq-eqb, ne_eqb}
 use lib.Dec.{eqb}
 use lib.ListN.{length, drop, length-append}
 use lib.Seq.{take_at}
+use Rattle.std.specs.Prelude.{Err, Ok, Result}
 use Rattle.buffer.specs.First.{◌⇒◌, first, pick}
 use Rattle.buffer.specs.Byte.{at, within, is_digit, every, same_text, digits3}
 use Rattle.buffer.proofs.Laws.{within_true, within_in}
@@ -26,9 +27,9 @@ use Rattle.requests.specs.declared.RequestV1.TheVariants.{Measure, ReadFactor, U
 use Rattle.request_texts.specs.RequestText.{letter_v1, head_for_v1}
 use Rattle.printed_facts.proofs.Sendable as printed
 use Rattle.replies_v1.specs.ReplyV1.{not_v1, other_address, other_letter, error_at, value_v1, read_v1}
-use Rattle.replies_v1.specs.declared.ReadV1.{ReadV1}
-use Rattle.replies_v1.specs.declared.ReadV1.TheVariants.{Read, Refused}
 use Rattle.replies_v1.specs.declared.ReplyV1.TheVariants.{Error}
+use Rattle.refusals.specs.declared.Refusal.{Refusal}
+use Rattle.replies_v1.specs.declared.ReplyV1.{ReplyV1}
 
 -- ---- a frame with this letter and these data
 
@@ -42,10 +43,10 @@ pub record Seen (a l : ℕ) (s : List ℕ) : Type 0 where
   pub address : address_of s ≡ a
   pub letter : at s 3 ≡ l
 
-pub seen : (a l : ℕ) (s : List ℕ) → frame_of s ≡ V1 (head_of a l) → Seen a l s
+pub seen : (a l : ℕ) (s : List ℕ) → frame_of s ≡ Ok (V1 (head_of a l)) → Seen a l s
 unfolding head_v1
 seen a l s e =
-    let t : Tells s (V1 (head_of a l)) = rw e at (tells s) in
+    let t : Tells s (Ok (V1 (head_of a l))) = rw e at (tells s) in
     record {
       framed = t.0;
       letter_in = t.1;
@@ -63,13 +64,13 @@ from_letter h d =
 -- ---- the rows past the address
 
 -- what is left to ask of a letter and data from the address that was asked
-abbrev pub rest : RequestV1 → ℕ → List ℕ → ReadV1
+abbrev pub rest : RequestV1 → ℕ → List ℕ → Result ReplyV1 Refusal
 rest r l d =
     first
-    (same_text (l ∷ d) (error_bytes NoDef) ⇒ Read (Error NoDef)
-    ∷ not (eqb l (letter_v1 r)) ⇒ Refused 14
-    ∷ same_text d (error_bytes Logic) ⇒ Read (Error Logic)
-    ∷ same_text d (error_bytes Range) ⇒ Read (Error Range)
+    (same_text (l ∷ d) (error_bytes NoDef) ⇒ Ok (Error NoDef)
+    ∷ not (eqb l (letter_v1 r)) ⇒ Err Refusal.Mismatch
+    ∷ same_text d (error_bytes Logic) ⇒ Ok (Error Logic)
+    ∷ same_text d (error_bytes Range) ⇒ Ok (Error Range)
     ∷ [])
     (value_v1 r d)
 

@@ -8,6 +8,7 @@ use native.Mathlib.Omega.{arith}
 use borrow.Author.Tests.{ne_eqb, eqb-true, eqb-false, le-ltb, lt-leb}
 use lib.Dec.{eqb}
 use lib.ListN.{length, take, drop}
+use Rattle.std.specs.Prelude.{Ok}
 use Rattle.buffer.specs.First.{pick}
 use Rattle.buffer.specs.Byte.{within, is_digit, every, same_text, numeral_from, numeral, digit}
 use Rattle.buffer.proofs.Laws.{within_in, same_self}
@@ -29,7 +30,6 @@ use Rattle.requests.specs.declared.RequestV1.{RequestV1}
 use Rattle.settings.specs.Units.{unit_code}
 use Rattle.request_texts.specs.RequestText.{digits6, data_v1}
 use Rattle.replies_v1.specs.ReplyV1.{pressure_v1, measure_v1, factor_v1, unit_at, unit_v1, echo_v1}
-use Rattle.replies_v1.specs.declared.ReadV1.TheVariants.{Read}
 use Rattle.replies_v1.specs.declared.ReplyV1.{ReplyV1}
 use Rattle.replies_v1.specs.declared.ReplyV1.TheVariants.{Reads, Factor, Unit, Done, Error}
 use Rattle.settings.proofs.Laws.{factor_is}
@@ -51,7 +51,7 @@ six_of_are q e = rw (digit_is (q / 1000), digit_is (q / 100), digit_is (q / 10),
 
 -- ---- a set's reply
 
-pub echo_held : (r : RequestV1) → echo_v1 r (data_v1 r) ≡ Read Done
+pub echo_held : (r : RequestV1) → echo_v1 r (data_v1 r) ≡ Ok Done
 unfolding echo_v1 pick
 echo_held r = rw (same_self (data_v1 r))
 
@@ -69,13 +69,13 @@ three k h =
     let z : k / 1000 ≡ 0 = omega arith in
     rw z (three_spell (k / 100 % 10) (k / 10 % 10) (k % 10) ∙ tens k h)
 
-pub factor_held : (n : ℕ) → standard.factor_low ≤ n → n ≤ standard.factor_high → factor_v1 (digits6 n) ≡ Read (Factor n)
+pub factor_held : (n : ℕ) → standard.factor_low ≤ n → n ≤ standard.factor_high → factor_v1 (digits6 n) ≡ Ok (Factor n)
 unfolding factor_v1 six_digits pick
 factor_held n h k = rw (six_are n, three n (omega arith), factor_is n h k)
 
 -- ---- the unit
 
-pub unit_held : (u : PressureUnit) → unit_v1 (digits6 (unit_code u)) ≡ Read (Unit u)
+pub unit_held : (u : PressureUnit) → unit_v1 (digits6 (unit_code u)) ≡ Ok (Unit u)
 unfolding unit_v1 unit_at unit_code six_digits every within numeral_from pick
 unit_held Mbar = refl
 unit_held Torr = refl
@@ -83,15 +83,15 @@ unit_held HPa = refl
 
 -- ---- the pressure
 
-pub below_held : measure_v1 (six_of 0 0) ≡ Read ReplyV1.UnderRange
+pub below_held : measure_v1 (six_of 0 0) ≡ Ok ReplyV1.UnderRange
 unfolding measure_v1 six_of same_text pick
 below_held = refl
 
-pub above_held : measure_v1 (six_of 9999 99) ≡ Read ReplyV1.OverRange
+pub above_held : measure_v1 (six_of 9999 99) ≡ Ok ReplyV1.OverRange
 unfolding measure_v1 six_of same_text pick
 above_held = refl
 
-pub fault_held : measure_v1 (49 ∷ []) ≡ Read (Error Error1)
+pub fault_held : measure_v1 (49 ∷ []) ≡ Ok (Error Error1)
 unfolding measure_v1 same_text pick
 fault_held = refl
 
@@ -137,7 +137,7 @@ module _ (q e : ℕ) (low : 1000 ≤ q) (high : q ≤ 9999) (least : 11 ≤ e) (
   six_there = rw (six_of_are q e)
 
   -- four digits and an exponent within the limits are read as themselves
-  pub reads_held : measure_v1 (six_of q e) ≡ Read (Reads q e)
+  pub reads_held : measure_v1 (six_of q e) ≡ Ok (Reads q e)
   unfolding measure_v1 pressure_v1 pick
   reads_held = rw (not_one, not_below, not_above, six_there, mantissa_is, exponent_is, le-ltb q 1000 low, within_in 11 30 e least most)
 
@@ -149,14 +149,14 @@ unfolding below_of plus minus units
 above_zero n (inl z, h) = absurd (false≢true (rw z at h))
 above_zero n (inr f, h) = f
 
-rounded_held : (n : Number) → Full n → measure_v1 (rounded_text n) ≡ Read (rounded_v1 n)
+rounded_held : (n : Number) → Full n → measure_v1 (rounded_text n) ≡ Ok (rounded_v1 n)
 unfolding rounded_text rounded_v1 pick
 rounded_held n f = go (eqb q 10000) refl
   where
     q : ℕ
     q = (n.mantissa + 50) / 100
 
-    go : (b : Bool) → eqb q 10000 ≡ b → measure_v1 (rounded_text n) ≡ Read (rounded_v1 n)
+    go : (b : Bool) → eqb q 10000 ≡ b → measure_v1 (rounded_text n) ≡ Ok (rounded_v1 n)
     go true h =
         let e : q ≡ 10000 = eqb-true q 10000 h in
         let p : n.place + 11 + 1 ≡ n.place + 12 = omega arith in
@@ -180,7 +180,7 @@ measure_digits Pressure.UnderRange = six_digits_lem 0 0
 measure_digits Pressure.OverRange = six_digits_lem 9999 99
 measure_digits Faulty = (refl, omega arith)
 
-pub pressure_held_lem : (p : Pressure) → SoundPressure p → measure_v1 (measure_text p) ≡ Read (pressure_held p)
+pub pressure_held_lem : (p : Pressure) → SoundPressure p → measure_v1 (measure_text p) ≡ Ok (pressure_held p)
 unfolding measure_text pressure_held
 pressure_held_lem (Measured n) h = rounded_held n (above_zero n h)
 pressure_held_lem Pressure.UnderRange h = below_held

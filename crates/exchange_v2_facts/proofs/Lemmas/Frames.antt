@@ -7,6 +7,7 @@ use native.Mathlib.Omega.{arith}
 use borrow.Author.Tests.{eq-eqb}
 use lib.Dec.{eqb}
 use lib.ListN.{length}
+use Rattle.std.specs.Prelude.{Ok}
 use Rattle.buffer.specs.First.{pick}
 use Rattle.buffer.specs.Byte.{at, within, is_digit, every, same_text, Printed}
 use Rattle.frames.specs.Checksum.{closed}
@@ -26,7 +27,6 @@ use Rattle.requests.specs.declared.RequestV2.{RequestV2}
 use Rattle.requests.specs.declared.RequestV2.TheVariants as request
 use Rattle.request_texts.specs.RequestText.{access_of, command_in, head_for}
 use Rattle.replies_v2_values.specs.declared.ReplyV2.TheVariants.{Error}
-use Rattle.replies_v2_values.specs.declared.ReadV2.TheVariants.{Read}
 use Rattle.replies_v2.specs.ReplyV2.{other_access, other_command, mismatched, error_reply, data_reply, read_v2, body_reply}
 use Rattle.replies_v2.proofs.Laws.{via_frame, at_frame}
 use Rattle.printed_facts.proofs.Printed.{error_printed}
@@ -41,8 +41,8 @@ pub by_head : (limits : ProfileLimits) (a : ℕ) (r : RequestV2) (h : HeadV2) (s
 unfolding frame_v2 closed via_frame pick
 by_head limits a r h s e ok =
     let w = read_back_v2 h s ok in
-    let v : via_frame limits a r (frame_v2 h s) (V2 h) ≡ body_reply limits r h s = rw (w.rest, eq-eqb h.address a e) in
-    (sym (at_frame limits a r (frame_v2 h s) (V2 h) ok.access_in w.head) ∙ v, w.rest)
+    let v : via_frame limits a r (frame_v2 h s) (Ok (V2 h)) ≡ body_reply limits r h s = rw (w.rest, eq-eqb h.address a e) in
+    (sym (at_frame limits a r (frame_v2 h s) (Ok (V2 h)) ok.access_in w.head) ∙ v, w.rest)
 
 -- ---- heads
 
@@ -77,7 +77,7 @@ accepted_read limits a r s i p l =
 
 -- ---- replies to refused requests
 
-error_text_lem : (e : ErrorText) → error_reply (error_bytes e) ≡ Read (Error e)
+error_text_lem : (e : ErrorText) → error_reply (error_bytes e) ≡ Ok (Error e)
 unfolding error_reply error_bytes pick same_text
 error_text_lem Length = refl
 error_text_lem Logic = refl
@@ -90,7 +90,7 @@ error_code_lem : (r : RequestV2) → other_access r 55 ≡ false
 unfolding other_access
 error_code_lem r = and-false (not (eqb 55 (access_of r + 1)))
 
-pub error_read : (limits : ProfileLimits) (a : ℕ) (r : RequestV2) (e : ErrorText) → within 1 999 a ≡ true → read_v2 limits a r (frame_v2 (error_head_v2 (head_for a r)) (error_bytes e)) ≡ Read (Error e)
+pub error_read : (limits : ProfileLimits) (a : ℕ) (r : RequestV2) (e : ErrorText) → within 1 999 a ≡ true → read_v2 limits a r (frame_v2 (error_head_v2 (head_for a r)) (error_bytes e)) ≡ Ok (Error e)
 unfolding head_for error_head_v2 body_reply mismatched pick within
 error_read limits a r e i =
     let h = by_head limits a r (answer_head (head_for a r) 55) (error_bytes e) refl (sendable a r 55 (error_bytes e) i refl (error_printed e) (omega (arith, error_le e))) in

@@ -8,6 +8,7 @@ use borrow.Author.Tests.{ne_eqb, lt-leb, eqb-true, leb-false, not-false}
 use lib.Dec.{eqb, leb}
 use lib.ListN.{length, take, drop, length-append}
 use lib.Seq.{take_at, drop-append-add}
+use Rattle.std.specs.Prelude.{Err, None, Ok, Option, Result, Some}
 use Rattle.buffer.specs.First.{pick}
 use Rattle.buffer.specs.Byte.{within, is_digit, every, same_text, until_of, numeral_from, numeral, digit, digits3, leading, starts_with}
 use Rattle.buffer.proofs.Rules.{each}
@@ -15,10 +16,6 @@ use Rattle.buffer.proofs.Laws.{within_true, within_in, same_equal, starts_some}
 use Rattle.decimal.specs.Form.{number_of}
 use Rattle.decimal.specs.Number.{below_of, hundredths_of}
 use Rattle.decimal.specs.declared.Number.{Number}
-use Rattle.decimal.specs.declared.Parsed.{Parsed}
-use Rattle.decimal.specs.declared.Parsed.TheVariants.{Value, Syntax, Range}
-use Rattle.decimal.specs.declared.Hundredths.{Hundredths}
-use Rattle.decimal.specs.declared.Hundredths.TheVariants.{Whole, Other}
 use Rattle.sources.specs.Source.{list_text}
 use Rattle.sources.specs.Entries.{entries_number, entries_list}
 use Rattle.settings.specs.Settings.{key_of}
@@ -35,13 +32,7 @@ use Rattle.decimal_facts.proofs.Value.{hundredths_exactly}
 use Rattle.forms.specs.Forms.{address_data, unit_data, factor_in, factor_of, digit_data, digit_of, limited_of, direct_of, between_of, ends_of, transition_of, transition_data, idle_list, known_mode, stream_of, stream_data}
 use Rattle.forms.specs.Judged.{verdict_of}
 use Rattle.forms.specs.declared.Ends.{Ends}
-use Rattle.forms.specs.declared.Ends.TheVariants.{None, One}
-use Rattle.forms.specs.declared.Digit.{Digit}
-use Rattle.forms.specs.declared.Digit.TheVariants.{Is}
-use Rattle.forms.specs.declared.Limited.{Limited}
-use Rattle.forms.specs.declared.Limited.TheVariants.{Fine}
-use Rattle.forms.specs.declared.Verdict.{Verdict}
-use Rattle.forms.specs.declared.Verdict.TheVariants.{Set}
+use Rattle.forms.specs.declared.Ends.TheVariants.{One}
 use Rattle.settings.proofs.Laws.{factor_is}
 use Rattle.forms_facts.specs.Codes.{GoodList}
 use Rattle.forms_facts.proofs.Digit.{digit_exactly}
@@ -52,12 +43,14 @@ use Rattle.forms_facts.proofs.Lemmas.Lists.{entries_good}
 use Rattle.forms_facts.proofs.Lemmas.Numbers.{read_lacks}
 use Rattle.forms_facts.proofs.Lemmas.Texts.{good_number, none_number}
 use Rattle.forms_facts.specs.Form.{Form}
+use Rattle.decimal.specs.declared.NumberError.{NumberError}
+use Rattle.refusals.specs.declared.Refusal.{Refusal}
 
 -- ---- what is accepted is of the form
 
-abbrev pub Formed : ProfileLimits → Key → List ℕ → Verdict → Type 0
-Formed limits key s (Set x) = (key_of x ≡ key) × Form limits s x
-Formed limits key s (Verdict.Refused k) = Unit {0}
+abbrev pub Formed : ProfileLimits → Key → List ℕ → Result Setting Refusal → Type 0
+Formed limits key s (Ok x) = (key_of x ≡ key) × Form limits s x
+Formed limits key s (Err k) = Unit {0}
 
 last_digit : (q y : ℕ) → 48 ≤ y → y ≤ 57 → y ≡ digit (q * 10 + (y - 48))
 last_digit q y h k = omega arith
@@ -87,57 +80,55 @@ three_digits (x ∷ y ∷ z ∷ []) e f =
 address_formed : (limits : ProfileLimits) (s : List ℕ) → Formed limits DA s (address_data s)
 unfolding address_data
 address_formed limits s =
-    each (Formed limits DA s) (not (eqb (length s) 3)) (Verdict.Refused 10) _ (λ _. tt)
-    (λ e. each (Formed limits DA s) (not (every is_digit s)) (Verdict.Refused 10) _ (λ _. tt)
-    (λ f. each (Formed limits DA s) (not (within standard.address_low standard.address_high (numeral s))) (Verdict.Refused 11) (Set (Address (numeral s))) (λ _. tt)
+    each (Formed limits DA s) (not (eqb (length s) 3)) (Err Refusal.Syntax) _ (λ _. tt)
+    (λ e. each (Formed limits DA s) (not (every is_digit s)) (Err Refusal.Syntax) _ (λ _. tt)
+    (λ f. each (Formed limits DA s) (not (within standard.address_low standard.address_high (numeral s))) (Err Refusal.Range) (Ok (Address (numeral s))) (λ _. tt)
     (λ _. (refl, three_digits s (eqb-true (length s) 3 (not-false _ e)) (not-false _ f)))))
 
 unit_formed : (limits : ProfileLimits) (s : List ℕ) → Formed limits DU s (unit_data s)
 unfolding unit_data
 unit_formed limits s =
-    each (Formed limits DU s) (same_text s (unit_text Mbar)) (Set (PressureIn Mbar)) _ (λ e. (refl, same_equal s (unit_text Mbar) e))
-    (λ _. each (Formed limits DU s) (same_text s (unit_text Torr)) (Set (PressureIn Torr)) _ (λ e. (refl, same_equal s (unit_text Torr) e))
-    (λ _. each (Formed limits DU s) (same_text s (unit_text HPa)) (Set (PressureIn HPa)) (Verdict.Refused 10) (λ e. (refl, same_equal s (unit_text HPa) e)) (λ _. tt)))
+    each (Formed limits DU s) (same_text s (unit_text Mbar)) (Ok (PressureIn Mbar)) _ (λ e. (refl, same_equal s (unit_text Mbar) e))
+    (λ _. each (Formed limits DU s) (same_text s (unit_text Torr)) (Ok (PressureIn Torr)) _ (λ e. (refl, same_equal s (unit_text Torr) e))
+    (λ _. each (Formed limits DU s) (same_text s (unit_text HPa)) (Ok (PressureIn HPa)) (Err Refusal.Syntax) (λ e. (refl, same_equal s (unit_text HPa) e)) (λ _. tt)))
 
 factor_formed : (limits : ProfileLimits) (s : List ℕ) → Formed limits C1 s (factor_of (number_of s))
 unfolding factor_of factor_in
 factor_formed limits s = go (number_of s) refl
   where
-    whole : (n : Number) (h : Hundredths) → number_of s ≡ Value n → n.negative ≡ false → hundredths_of n ≡ h → Formed limits C1 s (factor_in h)
-    whole n (Whole h) e f g =
-        each (Formed limits C1 s) (not (is_factor h)) (Verdict.Refused 11) (Set (Factor h)) (λ _. tt)
+    whole : (n : Number) (h : Option ℕ) → number_of s ≡ Ok n → n.negative ≡ false → hundredths_of n ≡ h → Formed limits C1 s (factor_in h)
+    whole n (Some h) e f g =
+        each (Formed limits C1 s) (not (is_factor h)) (Err Refusal.Range) (Ok (Factor h)) (λ _. tt)
         (λ _. (refl, (n, e, f, ((hundredths_exactly n h).0 g).0)))
-    whole n Other e f g = tt
+    whole n None e f g = tt
 
-    go : (p : Parsed) → number_of s ≡ p → Formed limits C1 s (factor_of p)
-    go Syntax e = tt
-    go Range e = tt
-    go (Value n) e = each (Formed limits C1 s) n.negative (Verdict.Refused 11) (factor_in (hundredths_of n)) (λ _. tt) (λ f. whole n (hundredths_of n) e f refl)
+    go : (p : Result Number NumberError) → number_of s ≡ p → Formed limits C1 s (factor_of p)
+    go (Err x) e = tt
+    go (Ok n) e = each (Formed limits C1 s) n.negative (Err Refusal.Range) (factor_in (hundredths_of n)) (λ _. tt) (λ f. whole n (hundredths_of n) e f refl)
 
 digit_formed : (limits : ProfileLimits) (key : Key) (setting : ℕ → Setting) (most : ℕ) (s : List ℕ) → ((d : ℕ) → s ≡ (d + 48) ∷ [] → (key_of (setting d) ≡ key) × Form limits s (setting d))
     → Formed limits key s (digit_of setting (digit_data most s))
 unfolding digit_of
 digit_formed limits key setting most s f = go (digit_data most s) refl
   where
-    go : (r : Digit) → digit_data most s ≡ r → Formed limits key s (digit_of setting r)
-    go (Is d) e = f d ((digit_exactly most s d).0 e).0
-    go (Digit.Refused k) e = tt
+    go : (r : Result ℕ Refusal) → digit_data most s ≡ r → Formed limits key s (digit_of setting r)
+    go (Ok d) e = f d ((digit_exactly most s d).0 e).0
+    go (Err k) e = tt
 
 -- a number of ST that passes is what was read
-abbrev Reads : List ℕ → Limited → Type 0
-Reads s (Fine n) = number_of s ≡ Value n
-Reads s (Limited.Refused k) = Unit {0}
+abbrev Reads : List ℕ → Result Number Refusal → Type 0
+Reads s (Ok n) = number_of s ≡ Ok n
+Reads s (Err k) = Unit {0}
 
 limited_reads : (limits : ProfileLimits) (s : List ℕ) → Reads s (limited_of limits (number_of s))
 unfolding limited_of
 limited_reads limits s = go (number_of s) refl
   where
-    go : (p : Parsed) → number_of s ≡ p → Reads s (limited_of limits p)
-    go Syntax e = tt
-    go Range e = tt
-    go (Value n) e =
-        each (Reads s) (below_of n limits.transition_low) (Limited.Refused 11) _ (λ _. tt)
-        (λ _. each (Reads s) (below_of limits.transition_high n) (Limited.Refused 11) (Fine n) (λ _. tt) (λ _. e))
+    go : (p : Result Number NumberError) → number_of s ≡ p → Reads s (limited_of limits p)
+    go (Err x) e = tt
+    go (Ok n) e =
+        each (Reads s) (below_of n limits.transition_low) (Err Refusal.Range) _ (λ _. tt)
+        (λ _. each (Reads s) (below_of limits.transition_high n) (Err Refusal.Range) (Ok n) (λ _. tt) (λ _. e))
 
 -- a text that starts with b
 starts : (b : ℕ) (s : List ℕ) → starts_with b s ≡ true → 1 ≤ length s → s ≡ b ∷ drop 1 s
@@ -145,18 +136,18 @@ unfolding starts_with
 starts b [] e h = absurd (omega arith)
 starts b (x ∷ s) e h = rw (eqb-true x b e)
 
-direct_formed : (limits : ProfileLimits) (s t : List ℕ) (r : Limited) → s ≡ 68 ∷ t → Reads t r → Formed limits ST s (direct_of r)
+direct_formed : (limits : ProfileLimits) (s t : List ℕ) (r : Result Number Refusal) → s ≡ 68 ∷ t → Reads t r → Formed limits ST s (direct_of r)
 unfolding direct_of
-direct_formed limits s t (Fine n) e h = (refl, (t, e, h))
-direct_formed limits s t (Limited.Refused k) e h = tt
+direct_formed limits s t (Ok n) e h = (refl, (t, e, h))
+direct_formed limits s t (Err k) e h = tt
 
-between_formed : (limits : ProfileLimits) (s t u : List ℕ) (a b : Limited) → s ≡ 70 ∷ (t ++ 84 ∷ u) → Reads t a → Reads u b → Formed limits ST s (between_of a b)
+between_formed : (limits : ProfileLimits) (s t u : List ℕ) (a b : Result Number Refusal) → s ≡ 70 ∷ (t ++ 84 ∷ u) → Reads t a → Reads u b → Formed limits ST s (between_of a b)
 unfolding between_of
-between_formed limits s t u (Fine a) (Fine b) e h k =
-    each (Formed limits ST s) (not (below_of a b)) (Verdict.Refused 12) (Set (Switch (Between a b))) (λ _. tt) (λ _. (refl, (t, u, e, h, k)))
-between_formed limits s t u (Fine a) (Limited.Refused k) e h l = tt
-between_formed limits s t u (Limited.Refused j) (Fine b) e h l = tt
-between_formed limits s t u (Limited.Refused j) (Limited.Refused k) e h l = tt
+between_formed limits s t u (Ok a) (Ok b) e h k =
+    each (Formed limits ST s) (not (below_of a b)) (Err Refusal.Logic) (Ok (Switch (Between a b))) (λ _. tt) (λ _. (refl, (t, u, e, h, k)))
+between_formed limits s t u (Ok a) (Err k) e h l = tt
+between_formed limits s t u (Err j) (Ok b) e h l = tt
+between_formed limits s t u (Err j) (Err k) e h l = tt
 
 transition_formed : (limits : ProfileLimits) (s : List ℕ) → Formed limits ST s (transition_data limits s)
 unfolding transition_data ends_of transition_of
@@ -166,37 +157,37 @@ transition_formed limits s =
     let P : Ends → Type 0 = λ (e : Ends). Formed limits ST s (transition_of e) in
     each P (starts_with 68 s) (One (limited_of limits (number_of t))) _
     (λ e. direct_formed limits s t _ (starts 68 s e (starts_some 67 s e)) (limited_reads limits t))
-    (λ _. each P (not (starts_with 70 s && limits.between_form)) None _ (λ _. tt)
-    (λ e. each P (leb (length t) k) None _ (λ _. tt)
+    (λ _. each P (not (starts_with 70 s && limits.between_form)) Ends.None _ (λ _. tt)
+    (λ e. each P (leb (length t) k) Ends.None _ (λ _. tt)
     (λ f. between_formed limits s (take k t) (drop (k + 1) t) _ _ (front (both_told (starts_with 70 s) limits.between_form e).0 (until_split 84 t (leb-false (length t) k f))) (limited_reads limits (take k t))
     (limited_reads limits (drop (k + 1) t)))))
   where
     front : {t : List ℕ} → starts_with 70 s ≡ true → drop 1 s ≡ t → s ≡ 70 ∷ t
     front e f = starts 70 s e (starts_some 69 s e) ∙ rw f
 
-abbrev Streams : Verdict → Type 0
-Streams (Set x) = (on : Bool) × (x ≡ Stream on)
-Streams (Verdict.Refused k) = Unit {0}
+abbrev Streams : Result Setting Refusal → Type 0
+Streams (Ok x) = (on : Bool) × (x ≡ Stream on)
+Streams (Err k) = Unit {0}
 
 streams : (s : List ℕ) (n : ℕ) → Streams (stream_of s n)
 unfolding stream_of
 streams s n =
-    each Streams (eqb (leading s) 0) (Verdict.Refused 10) _ (λ _. tt)
-    (λ _. each Streams (eqb n 10) (Verdict.Refused 10) _ (λ _. tt)
-    (λ _. each Streams (idle_list s) (Verdict.Refused 10) _ (λ _. tt)
-    (λ _. each Streams (not (known_mode s)) (Verdict.Refused 11) _ (λ _. tt)
-    (λ _. each Streams (eqb n 11) (Verdict.Refused 11) _ (λ _. tt)
-    (λ _. each Streams (eqb n 12) (Verdict.Refused 12) (Set (Stream (starts_with 52 s))) (λ _. tt) (λ _. (starts_with 52 s, refl)))))))
+    each Streams (eqb (leading s) 0) (Err Refusal.Syntax) _ (λ _. tt)
+    (λ _. each Streams (eqb n 10) (Err Refusal.Syntax) _ (λ _. tt)
+    (λ _. each Streams (idle_list s) (Err Refusal.Syntax) _ (λ _. tt)
+    (λ _. each Streams (not (known_mode s)) (Err Refusal.Range) _ (λ _. tt)
+    (λ _. each Streams (eqb n 11) (Err Refusal.Range) _ (λ _. tt)
+    (λ _. each Streams (eqb n 12) (Err Refusal.Logic) (Ok (Stream (starts_with 52 s))) (λ _. tt) (λ _. (starts_with 52 s, refl)))))))
 
 stream_formed : (limits : ProfileLimits) (s : List ℕ) → Formed limits SM s (stream_data limits s)
 unfolding stream_data
 stream_formed limits s = go (stream_data limits s) refl (streams s (entries_number limits.source_codes (drop 1 s)))
   where
-    go : (v : Verdict) → stream_data limits s ≡ v → Streams v → Formed limits SM s v
-    go (Set x) e h =
-        let f : stream_data limits s ≡ Set (Stream h.0) = e ∙ rw h.1 in
+    go : (v : Result Setting Refusal) → stream_data limits s ≡ v → Streams v → Formed limits SM s v
+    go (Ok x) e h =
+        let f : stream_data limits s ≡ Ok (Stream h.0) = e ∙ rw h.1 in
         rw h.1 (refl, (entries_list limits.source_codes (drop 1 s), entries_good limits.source_codes (drop 1 s), sym (sent_as_accepted limits s h.0 f)))
-    go (Verdict.Refused k) e h = tt
+    go (Err k) e h = tt
 
 pub formed : (limits : ProfileLimits) (key : Key) (s : List ℕ) → Formed limits key s (verdict_of limits key s)
 unfolding verdict_of
@@ -214,37 +205,37 @@ formed limits SM s = stream_formed limits s
 digit_is : (n : ℕ) → is_digit (digit n) ≡ true
 digit_is n = within_in 48 57 (digit n) (omega arith) (omega arith)
 
-address_set : (limits : ProfileLimits) (v : ℕ) → Sound limits (Address v) → address_data (digits3 v) ≡ Set (Address v)
+address_set : (limits : ProfileLimits) (v : ℕ) → Sound limits (Address v) → address_data (digits3 v) ≡ Ok (Address v)
 unfolding address_data every pick numeral_from
 address_set limits v h =
     let e : numeral (digits3 v) ≡ v = omega (arith, h.0, h.1) in
     rw (digit_is (v / 100), digit_is (v / 10), digit_is v, e, within_in standard.address_low standard.address_high v h.0 h.1)
 
-unit_set : (u : PressureUnit) → unit_data (unit_text u) ≡ Set (PressureIn u)
+unit_set : (u : PressureUnit) → unit_data (unit_text u) ≡ Ok (PressureIn u)
 unfolding unit_data unit_text same_text pick
 unit_set Mbar = refl
 unit_set Torr = refl
 unit_set HPa = refl
 
-factor_set : (limits : ProfileLimits) (s : List ℕ) (h : ℕ) (n : Number) → number_of s ≡ Value n → n.negative ≡ false → hundredths_of n ≡ Whole h → Sound limits (Factor h)
-    → factor_of (number_of s) ≡ Set (Factor h)
+factor_set : (limits : ProfileLimits) (s : List ℕ) (h : ℕ) (n : Number) → number_of s ≡ Ok n → n.negative ≡ false → hundredths_of n ≡ Some h → Sound limits (Factor h)
+    → factor_of (number_of s) ≡ Ok (Factor h)
 unfolding factor_of factor_in pick
 factor_set limits s h n e f g k = rw (e, g, f, factor_is h k.0 k.1)
 
-digit_set : (setting : ℕ → Setting) (most d : ℕ) (s : List ℕ) → s ≡ (d + 48) ∷ [] → d ≤ most → most < 10 → digit_of setting (digit_data most s) ≡ Set (setting d)
+digit_set : (setting : ℕ → Setting) (most d : ℕ) (s : List ℕ) → s ≡ (d + 48) ∷ [] → d ≤ most → most < 10 → digit_of setting (digit_data most s) ≡ Ok (setting d)
 unfolding digit_of
 digit_set setting most d s e h k = rw ((digit_exactly most s d).1 (e, h, omega arith))
 
-limited_fine : (limits : ProfileLimits) (s : List ℕ) (n : Number) → number_of s ≡ Value n → InLimits limits n → limited_of limits (number_of s) ≡ Fine n
+limited_fine : (limits : ProfileLimits) (s : List ℕ) (n : Number) → number_of s ≡ Ok n → InLimits limits n → limited_of limits (number_of s) ≡ Ok n
 unfolding limited_of pick
 limited_fine limits s n e h = rw (e, h.low, h.high)
 
-direct_set : (limits : ProfileLimits) (t : List ℕ) (n : Number) → number_of t ≡ Value n → InLimits limits n → transition_data limits (68 ∷ t) ≡ Set (Switch (Direct n))
+direct_set : (limits : ProfileLimits) (t : List ℕ) (n : Number) → number_of t ≡ Ok n → InLimits limits n → transition_data limits (68 ∷ t) ≡ Ok (Switch (Direct n))
 unfolding transition_data ends_of transition_of direct_of pick starts_with
 direct_set limits t n e h = rw (limited_fine limits t n e h)
 
-between_set : (limits : ProfileLimits) (t u : List ℕ) (a b : Number) → limits.between_form ≡ true → number_of t ≡ Value a → number_of u ≡ Value b → InLimits limits a → InLimits limits b → below_of a b ≡ true
-    → transition_data limits (70 ∷ (t ++ 84 ∷ u)) ≡ Set (Switch (Between a b))
+between_set : (limits : ProfileLimits) (t u : List ℕ) (a b : Number) → limits.between_form ≡ true → number_of t ≡ Ok a → number_of u ≡ Ok b → InLimits limits a → InLimits limits b → below_of a b ≡ true
+    → transition_data limits (70 ∷ (t ++ 84 ∷ u)) ≡ Ok (Switch (Between a b))
 unfolding transition_data ends_of transition_of between_of pick starts_with
 between_set limits t u a b g e f h k l =
     let n : length t < length (t ++ 84 ∷ u) = simp length-append (omega arith) in
@@ -259,12 +250,12 @@ between_set limits t u a b g e f h k l =
       l,
     )
 
-stream_set : (limits : ProfileLimits) → Proper limits → (on : Bool) (list : List ℕ) → GoodList limits.source_codes list → stream_data limits (stream_text on list) ≡ Set (Stream on)
+stream_set : (limits : ProfileLimits) → Proper limits → (on : Bool) (list : List ℕ) → GoodList limits.source_codes list → stream_data limits (stream_text on list) ≡ Ok (Stream on)
 unfolding stream_data stream_of stream_text leading starts_with idle_list known_mode pick within
 stream_set limits ok true list h = rw (ne_eqb (leading (list_text list) + 1) 0 (λ (e : leading (list_text list) + 1 ≡ 0). omega arith), good_number limits.source_codes ok.here list h)
 stream_set limits ok false list h = rw (none_number limits.source_codes)
 
-pub is_set : (limits : ProfileLimits) → Proper limits → (s : List ℕ) (x : Setting) → Form limits s x → Sound limits x → verdict_of limits (key_of x) s ≡ Set x
+pub is_set : (limits : ProfileLimits) → Proper limits → (s : List ℕ) (x : Setting) → Form limits s x → Sound limits x → verdict_of limits (key_of x) s ≡ Ok x
 unfolding verdict_of
 is_set limits ok s (Address v) f h = rw f (address_set limits v h)
 is_set limits ok s (PressureIn u) f h = rw f (unit_set u)

@@ -8,6 +8,7 @@ use native.Mathlib.Omega.{arith}
 use borrow.Author.Tests.{eqb-true, not-false}
 use lib.Dec.{eqb, eqb-suc-zero}
 use lib.ListN.{length}
+use Rattle.std.specs.Prelude.{Err, Ok, Result}
 use Rattle.buffer.specs.First.{pick}
 use Rattle.buffer.specs.Byte.{every}
 use Rattle.sources.specs.Source.{source_of, list_text, among, stand_once, listable}
@@ -15,10 +16,9 @@ use Rattle.sources.proofs.Known.{Named, source_named, codes_known}
 use Rattle.sources.proofs.Weights.{at_most, once_exactly}
 use Rattle.sources.specs.Theorems.{RepeatOrZero}
 use Rattle.sources.specs.Entries.{onto, parts, source_texts, entries_of, is_formed, is_known, code_of, opens, entries_number, entries_list}
-use Rattle.sources.specs.declared.Source.{Source}
-use Rattle.sources.specs.declared.Source.TheVariants.{Known, Unknown, Malformed}
 use Rattle.forms_facts.specs.Codes.{GoodList, entries_text}
 use Rattle.forms_facts.specs.Theorems.{AtMostEntries}
+use Rattle.sources.specs.declared.SourceError.{SourceError}
 
 -- ---- the texts of sources that are all known
 
@@ -27,17 +27,17 @@ unfolding every list_text entries_text
 texts_known codes [] e = refl
 texts_known codes (t ∷ ts) e = go (source_of codes t) (source_named codes t) (texts_known codes ts) e
   where
-    go : (r : Source) → Named codes t r → (every is_known (map (source_of codes) ts) ≡ true → list_text (map code_of (map (source_of codes) ts)) ≡ entries_text ts)
+    go : (r : Result ℕ SourceError) → Named codes t r → (every is_known (map (source_of codes) ts) ≡ true → list_text (map code_of (map (source_of codes) ts)) ≡ entries_text ts)
         → (is_known r && every is_known (map (source_of codes) ts)) ≡ true → list_text (code_of r ∷ map code_of (map (source_of codes) ts)) ≡ 68 ∷ (t ++ entries_text ts)
-    go (Known c) h f k = rw (f k, h.1)
-    go Unknown h f k = absurd (let z : ◌≡◌ {A = ℕ} 0 1 = cc in omega arith)
-    go Malformed h f k = absurd (let z : ◌≡◌ {A = ℕ} 0 1 = cc in omega arith)
+    go (Ok c) h f k = rw (f k, h.1)
+    go (Err SourceError.Unknown) h f k = absurd (cc)
+    go (Err SourceError.Malformed) h f k = absurd (cc)
 
 -- ---- a text cut and `entries_text` again
 
 joined_onto : (x : ℕ) (ts : List (List ℕ)) (s : List ℕ) → entries_text ts ≡ 68 ∷ s → entries_text (onto x ts) ≡ 68 ∷ x ∷ s
 unfolding onto entries_text
-joined_onto x [] s h = absurd (let z : ◌≡◌ {A = ℕ} 0 1 = cc in omega arith)
+joined_onto x [] s h = absurd (cc)
 joined_onto x (t ∷ ts) s h = cc
 
 joined_parts : (s : List ℕ) → entries_text (parts s) ≡ 68 ∷ s
@@ -76,9 +76,9 @@ listed codes s e f = go (not (opens s)) (not (every is_formed (entries_of codes 
     go : (a b c : Bool) → not (opens s) ≡ a → not (every is_formed (entries_of codes s)) ≡ b → not (every is_known (entries_of codes s)) ≡ c → eqb (rows a b c) 10 ≡ false → eqb (rows a b c) 11 ≡ false
         → AllKnown codes s
     go false false false p q r h k = record { number = rw (p, q, r); opened = not-false _ p; known = not-false _ r }
-    go true b c p q r h k = absurd (let z : ◌≡◌ {A = ℕ} 0 1 = cc in omega arith)
-    go false true c p q r h k = absurd (let z : ◌≡◌ {A = ℕ} 0 1 = cc in omega arith)
-    go false false true p q r h k = absurd (let z : ◌≡◌ {A = ℕ} 0 1 = cc in omega arith)
+    go true b c p q r h k = absurd (cc)
+    go false true c p q r h k = absurd (cc)
+    go false false true p q r h k = absurd (cc)
 
 -- such a text is the text of its list, whose sources are known
 pub listed_known : (codes : List ℕ) (s : List ℕ) → AllKnown codes s → every (among codes) (map code_of (entries_of codes s)) ≡ true
@@ -98,7 +98,7 @@ once_number false n e = rw e
 pub once_zero : (b : Bool) (n : ℕ) → n ≡ pick (not b) 12 0 → eqb n 12 ≡ false → n ≡ 0
 unfolding pick
 once_zero true n e h = e
-once_zero false n e h = absurd (let z : ◌≡◌ {A = Bool} true false = rw e at h in let y : ◌≡◌ {A = ℕ} 0 1 = cc in omega arith)
+once_zero false n e h = absurd (let z : ◌≡◌ {A = Bool} true false = rw e at h in cc)
 
 -- ---- lists that SM can have
 

@@ -7,28 +7,27 @@ use Prim.Native.Nat.{ℕ}
 use native.Mathlib.Omega.{arith}
 use borrow.Author.Tests.{ne_eqb}
 use lib.Dec.{eqb}
+use Rattle.std.specs.Prelude.{None, Ok, Option, Some}
 use Rattle.buffer.specs.Byte.{is_digit, every}
 use Rattle.buffer.proofs.Laws.{within_true}
 use Rattle.decimal.specs.Form.{scan_of, number_of}
 use Rattle.decimal.specs.declared.Number.{Number}
-use Rattle.decimal.specs.declared.Scan.{Scan}
-use Rattle.decimal.specs.declared.Scan.TheVariants.{Of, NoForm}
-use Rattle.decimal.specs.declared.Parsed.TheVariants.{Value}
 use Rattle.decimal_facts.specs.Grammar.{Parts, Good, dash, point, exponent, spelled_of}
 use Rattle.decimal_facts.specs.Canonical.{Canonical}
 use Rattle.decimal_facts.proofs.Accepts.{sound, no_form, value_exactly}
 use Rattle.forms_facts.proofs.Lemmas.Lacks.{lacks, split, lacks_append}
+use Rattle.decimal.specs.declared.Exact.{Exact}
 
 -- a text that is read is of the form
-pub read_form : (s : List ℕ) (n : Number) → number_of s ≡ Value n → (p : Parts) × Good p × (spelled_of p ≡ s)
+pub read_form : (s : List ℕ) (n : Number) → number_of s ≡ Ok n → (p : Parts) × Good p × (spelled_of p ≡ s)
 read_form s n e = go (scan_of s) refl
   where
-    go : (r : Scan) → scan_of s ≡ r → (p : Parts) × Good p × (spelled_of p ≡ s)
-    go (Of x) f = let w = sound s x f in (w.0, w.1, w.2)
-    go NoForm f = absurd (let z : ◌≡◌ {A = ℕ} 0 1 = cc (no_form s f) in omega arith)
+    go : (r : Option Exact) → scan_of s ≡ r → (p : Parts) × Good p × (spelled_of p ≡ s)
+    go (Some x) f = let w = sound s x f in (w.0, w.1, w.2)
+    go None f = absurd (cc (no_form s f))
 
 -- a number that is read is canonical
-pub read_canonical : (s : List ℕ) (n : Number) → number_of s ≡ Value n → Canonical n
+pub read_canonical : (s : List ℕ) (n : Number) → number_of s ≡ Ok n → Canonical n
 read_canonical s n e = let w = read_form s n e in ((value_exactly w.0 n w.1).0 (rw w.2 e)).canonical
 
 -- ---- a text that is read has no `T`
@@ -68,5 +67,5 @@ form_lacks p g =
     lacks_append 84 (dash p.negative ++ p.whole ++ point p.fraction) (exponent p.mark p.below p.power) b
     (exponent_lack p.mark p.below p.power (mark_lack p.mark g.marked) (digits_lack p.power g.power_digits))
 
-pub read_lacks : (s : List ℕ) (n : Number) → number_of s ≡ Value n → lacks 84 s ≡ true
+pub read_lacks : (s : List ℕ) (n : Number) → number_of s ≡ Ok n → lacks 84 s ≡ true
 read_lacks s n e = let w = read_form s n e in rw w.2 at (form_lacks w.0 w.1)

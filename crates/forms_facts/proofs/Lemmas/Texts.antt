@@ -7,16 +7,17 @@ use native.Mathlib.Omega.{arith}
 use borrow.Author.Tests.{eqb-true, eq-eqb, ne_eqb, not-true}
 use lib.Dec.{eqb}
 use lib.ListN.{length}
+use Rattle.std.specs.Prelude.{Err, Ok}
 use Rattle.buffer.specs.First.{pick}
 use Rattle.buffer.specs.Byte.{within, every, same_text, digit}
 use Rattle.buffer.proofs.Laws.{same_self, same_equal}
 use Rattle.buffer.proofs.Rules.{each}
 use Rattle.sources.specs.Source.{source_text, is_source, find_source, source_of, known_sources, list_text, among, all_differ, stand_once}
 use Rattle.sources.specs.Entries.{onto, parts, source_texts, entries_of, is_formed, is_known, code_of, opens, entries_number, entries_list}
-use Rattle.sources.specs.declared.Source.TheVariants.{Known, Unknown}
 use Rattle.forms_facts.specs.Codes.{GoodList, entries_text}
 use Rattle.forms_facts.proofs.Lemmas.Lacks.{lacks, split}
 use Rattle.forms_facts.proofs.Lemmas.Lists.{good_once}
+use Rattle.sources.specs.declared.SourceError.{SourceError}
 
 digit_no : (n b : ℕ) → 58 ≤ b → eqb (digit n) b ≡ false
 digit_no n b h = ne_eqb (digit n) b (λ (e : digit n ≡ b). omega arith)
@@ -72,7 +73,7 @@ Each P (c ∷ cs) = P c × Each P cs
 
 pub of_each : (P : ℕ → Type 0) (codes : List ℕ) (c : ℕ) → Each P codes → among codes c ≡ true → P c
 unfolding among
-of_each P [] c h e = absurd (let z : ◌≡◌ {A = ℕ} 0 1 = cc in omega arith)
+of_each P [] c h e = absurd (cc)
 of_each P (d ∷ codes) c h e = go (eqb c d) refl e (of_each P codes c h.1)
   where
     go : (b : Bool) → eqb c d ≡ b → (b || among codes c) ≡ true → (among codes c ≡ true → P c) → P c
@@ -84,9 +85,9 @@ abbrev pub digit_codes : List ℕ
 digit_codes = 0 ∷ 1 ∷ 2 ∷ 3 ∷ 4 ∷ 5 ∷ 6 ∷ 7 ∷ 8 ∷ 9 ∷ []
 
 -- the text of each names it, and is of the form
-named_again : (c : ℕ) → among digit_codes c ≡ true → source_of digit_codes (source_text c) ≡ Known c
+named_again : (c : ℕ) → among digit_codes c ≡ true → source_of digit_codes (source_text c) ≡ Ok c
 unfolding source_of find_source source_text is_source every within same_text pick
-named_again c e = of_each (λ (k : ℕ). source_of digit_codes (source_text k) ≡ Known k) digit_codes c (refl, (refl, (refl, (refl, (refl, (refl, (refl, (refl, (refl, (refl, tt)))))))))) e
+named_again c e = of_each (λ (k : ℕ). source_of digit_codes (source_text k) ≡ Ok k) digit_codes c (refl, (refl, (refl, (refl, (refl, (refl, (refl, (refl, (refl, (refl, tt)))))))))) e
 
 text_formed : (c : ℕ) → among digit_codes c ≡ true → is_source (source_text c) ≡ true
 unfolding source_text is_source every within pick
@@ -95,13 +96,13 @@ text_formed c e = of_each (λ (k : ℕ). is_source (source_text k) ≡ true) dig
 -- so two of them with one text are one
 one_source : (c d : ℕ) → among digit_codes c ≡ true → among digit_codes d ≡ true → source_text c ≡ source_text d → c ≡ d
 one_source c d e f t =
-    let z : Known c ≡ Known d = sym (named_again c e) ∙ ap (source_of digit_codes) t ∙ named_again d f in
+    let z : Ok c ≡ Ok d = sym (named_again c e) ∙ ap (source_of digit_codes) t ∙ named_again d f in
     ap code_of z
 
 -- one of the sources of a list, all of which are among others
 among_more : (big cs : List ℕ) (c : ℕ) → every (among big) cs ≡ true → among cs c ≡ true → among big c ≡ true
 unfolding every among
-among_more big [] c k h = absurd (let z : ◌≡◌ {A = ℕ} 0 1 = cc in omega arith)
+among_more big [] c k h = absurd (cc)
 among_more big (d ∷ cs) c k h = let w = split (among big d) (every (among big) cs) k in go (eqb c d) refl h w.0 (among_more big cs c w.1)
   where
     go : (b : Bool) → eqb c d ≡ b → (b || among cs c) ≡ true → among big d ≡ true → (among cs c ≡ true → among big c ≡ true) → among big c ≡ true
@@ -132,7 +133,7 @@ digit_code (suc (suc (suc (suc (suc (suc (suc (suc (suc zero))))))))) h = refl
 digit_code (suc (suc (suc (suc (suc (suc (suc (suc (suc (suc c)))))))))) h = absurd (omega arith)
 
 -- the text of a code of one digit names it where it is among the sources, and none of them otherwise
-find_told : (cs : List ℕ) (c : ℕ) → every (among digit_codes) cs ≡ true → among digit_codes c ≡ true → find_source cs (source_text c) ≡ pick (among cs c) (Known c) Unknown
+find_told : (cs : List ℕ) (c : ℕ) → every (among digit_codes) cs ≡ true → among digit_codes c ≡ true → find_source cs (source_text c) ≡ pick (among cs c) (Ok c) (Err SourceError.Unknown)
 unfolding find_source every among pick
 find_told [] c k e = refl
 find_told (d ∷ cs) c k e =
@@ -142,49 +143,49 @@ find_told (d ∷ cs) c k e =
     other : same_text (source_text c) (source_text d) ≡ false → eqb c d ≡ false
     other n = ne_eqb c d (λ (z : c ≡ d). true≢false (sym (same_self (source_text d)) ∙ rw z at n))
 
-    go : (b : Bool) → same_text (source_text c) (source_text d) ≡ b → among digit_codes d ≡ true → find_source cs (source_text c) ≡ pick (among cs c) (Known c) Unknown
-        → pick b (Known d) (find_source cs (source_text c)) ≡ pick (eqb c d || among cs c) (Known c) Unknown
+    go : (b : Bool) → same_text (source_text c) (source_text d) ≡ b → among digit_codes d ≡ true → find_source cs (source_text c) ≡ pick (among cs c) (Ok c) (Err SourceError.Unknown)
+        → pick b (Ok d) (find_source cs (source_text c)) ≡ pick (eqb c d || among cs c) (Ok c) (Err SourceError.Unknown)
     go true n f r =
         let z : c ≡ d = one_source c d e f (same_equal (source_text c) (source_text d) n) in
-        rw (eq-eqb c d z) (ap Known (sym z))
+        rw (eq-eqb c d z) (ap Ok (sym z))
     go false n f r = rw (other n) r
 
-pub source_told : (codes : List ℕ) (c : ℕ) → every (among known_sources) codes ≡ true → among digit_codes c ≡ true → source_of codes (source_text c) ≡ pick (among codes c) (Known c) Unknown
+pub source_told : (codes : List ℕ) (c : ℕ) → every (among known_sources) codes ≡ true → among digit_codes c ≡ true → source_of codes (source_text c) ≡ pick (among codes c) (Ok c) (Err SourceError.Unknown)
 unfolding source_of pick
 source_told codes c k e = rw (text_formed c e) (find_told codes c (known_digits codes k) e)
 
 -- where the gauge's sources are some of the known ones
 module _ (codes : List ℕ) (here : every (among known_sources) codes ≡ true) where
   -- the text of one of them names it
-  source_again : (c : ℕ) → among codes c ≡ true → source_of codes (source_text c) ≡ Known c
+  source_again : (c : ℕ) → among codes c ≡ true → source_of codes (source_text c) ≡ Ok c
   unfolding pick
   source_again c e = source_told codes c here (among_more digit_codes codes c (known_digits codes here) e) ∙ rw e
 
-  sources_again : (cs : List ℕ) → every (among codes) cs ≡ true → map (source_of codes) (map source_text cs) ≡ map Known cs
+  sources_again : (cs : List ℕ) → every (among codes) cs ≡ true → map (source_of codes) (map source_text cs) ≡ map Ok cs
   unfolding every
   sources_again [] e = refl
   sources_again (c ∷ cs) e =
       let w = split (among codes c) (every (among codes) cs) e in
       rw (source_again c w.0, sources_again cs w.1)
 
-  pub entries_of_lem : (cs : List ℕ) → every (among codes) cs ≡ true → entries_of codes (list_text cs) ≡ map Known cs
+  pub entries_of_lem : (cs : List ℕ) → every (among codes) cs ≡ true → entries_of codes (list_text cs) ≡ map Ok cs
   unfolding entries_of
   entries_of_lem cs e = rw (texts_of cs) (sources_again cs e)
 
 pub opens_list : (cs : List ℕ) → opens (list_text cs) ≡ true
 opens_list cs = rw (list_texts cs) (opens_texts (map source_text cs))
 
-all_formed : (cs : List ℕ) → every is_formed (map Known cs) ≡ true
+all_formed : (cs : List ℕ) → every is_formed (map Ok cs) ≡ true
 unfolding every
 all_formed [] = refl
 all_formed (c ∷ cs) = all_formed cs
 
-all_known : (cs : List ℕ) → every is_known (map Known cs) ≡ true
+all_known : (cs : List ℕ) → every is_known (map Ok cs) ≡ true
 unfolding every
 all_known [] = refl
 all_known (c ∷ cs) = all_known cs
 
-all_codes : (cs : List ℕ) → map code_of (map Known cs) ≡ cs
+all_codes : (cs : List ℕ) → map code_of (map Ok cs) ≡ cs
 all_codes [] = refl
 all_codes (c ∷ cs) = rw (all_codes cs)
 

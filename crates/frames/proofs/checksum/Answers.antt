@@ -4,10 +4,10 @@ use Rattle.frames.specs.Checksum.{checksum_of}
 use Rattle.frames.proofs.Laws.{sum_step, sum_end}
 use Rattle.frames.proofs.checksum.Goals as goal
 
-pub loop-i-preserved : goal.loop-i-preserved
+pub loop-b-preserved : goal.loop-b-preserved
 unfolding checksum_of
-loop-i-preserved c = omega (arith, sum_step c.args.s.now c.loop-i.i (omega arith))
+loop-b-preserved c = (omega arith, omega (arith, sum_step c.args.s.now c.loop-b.b-index (omega arith)))
 
 pub returns : goal.returns
 unfolding checksum_of
-returns c = omega (arith, sum_end c.args.s.now c.loop-i.i (omega arith))
+returns c = omega (arith, sum_end c.args.s.now c.loop-b.b-index (omega arith))

@@ -1,24 +1,16 @@
 -- `frames::has_wrong_address` meets its contract.
-use Rattle.std.proofs.Common.{arith, length-take}
+use Rattle.std.proofs.Common.{arith}
 use Rattle.buffer.proofs.Rules.{rules}
 use Rattle.frames.specs.Frame.{wrong_address}
 use Rattle.frames.proofs.Laws.{flags, last_row, numeral_part}
 use Rattle.frames.proofs.has_wrong_address.Goals as goal
 
-pub slice_bounds-all_within-end : goal.slice_bounds-all_within-end
-unfolding wrong_address
-slice_bounds-all_within-end c = simp length-take (omega arith)
-
 pub returns-then-not-all_within : goal.returns-then-not-all_within
 unfolding wrong_address
 returns-then-not-all_within c = search (rules, flags) depth 24
 
-pub slice_bounds-numeral_of-end : goal.slice_bounds-numeral_of-end
+pub returns-else-not-all_within : goal.returns-else-not-all_within
 unfolding wrong_address
-slice_bounds-numeral_of-end c = simp length-take (omega arith)
-
-pub returns : goal.returns
-unfolding wrong_address
-returns c =
+returns-else-not-all_within c =
     let s = c.args.s.now in
     rw (c.numeral_of.ensures, numeral_part 3 s (omega arith)) (search (rules, flags, last_row) depth 24)

@@ -9,9 +9,9 @@ pub returns-then-not-all_within : goal.returns-then-not-all_within
 unfolding wrong_length
 returns-then-not-all_within c = search (rules, flags) depth 24
 
-pub returns : goal.returns
+pub returns-else-not-all_within : goal.returns-else-not-all_within
 unfolding wrong_length
-returns c =
+returns-else-not-all_within c =
     let s = c.args.s.now in
     let n : length (data_from 8 s) ≡ length s - 10 = simp (length-drop, length-take) (omega arith) in
     rw (n, c.numeral_of.ensures, numeral_part 2 (drop 6 s) (omega arith)) (search (rules, flags, last_row) depth 24)

@@ -1,25 +1,29 @@
 -- `frames::length_fits` meets its contract.
-use Rattle.buffer.proofs.Rules.{rules}
-use Rattle.frames.specs.Frame.{length_fits}
-use Rattle.frames.proofs.Laws.{too_short, in_low, out_low, flags}
+use Rattle.std.proofs.Common.{sym, ◌∙◌}
+use borrow.Author.Tests.{ltb-false}
+use Rattle.buffer.specs.Byte.{within}
+use Rattle.frames.proofs.Laws.{in_low, out_low, as_v2, as_v1, as_other, too_short}
 use Rattle.frames.proofs.length_fits.Goals as goal
 
-pub returns-then-n-lt6 : goal.returns-then-n-lt6
-unfolding length_fits
-returns-then-n-lt6 c = too_short c.args.s.now c.if-n-lt6.true
-
 pub returns-then-n-ge10 : goal.returns-then-n-ge10
-unfolding length_fits
-returns-then-n-ge10 c = search (rules, flags, in_low) depth 24
+unfolding within
+returns-then-n-ge10 c = as_v2 c.args.s.now c.in-Some.b.now (c.in-Some.ensures.lookup.3.1 0) _ (sym c.is_ascii_digit.ensures.value ∙ c.if-is_ascii_digit.true) (in_low 10 109 _ c.if-n-ge10.true)
 
 pub returns-else-n-ge10 : goal.returns-else-n-ge10
-unfolding length_fits
-returns-else-n-ge10 c = search (rules, flags, out_low) depth 24
+unfolding within
+returns-else-n-ge10 c = as_v2 c.args.s.now c.in-Some.b.now (c.in-Some.ensures.lookup.3.1 0) _ (sym c.is_ascii_digit.ensures.value ∙ c.if-is_ascii_digit.true) (out_low 10 109 _ c.if-n-ge10.false)
 
-pub returns-then-is_letter : goal.returns-then-is_letter
-unfolding length_fits
-returns-then-is_letter c = search (rules, flags, in_low) depth 24
+pub returns-then-n-ge6 : goal.returns-then-n-ge6
+unfolding within
+returns-then-n-ge6 c = as_v1 c.args.s.now c.in-Some.b.now (c.in-Some.ensures.lookup.3.1 0) _ (sym c.is_ascii_digit.ensures.value ∙ c.if-is_ascii_digit.false) (sym c.is_letter.ensures ∙ c.if-is_letter.true) (in_low 6 12 _ c.if-n-ge6.true)
 
-pub returns : goal.returns
-unfolding length_fits
-returns c = search (rules, flags) depth 24
+pub returns-else-n-ge6 : goal.returns-else-n-ge6
+unfolding within
+returns-else-n-ge6 c = as_v1 c.args.s.now c.in-Some.b.now (c.in-Some.ensures.lookup.3.1 0) _ (sym c.is_ascii_digit.ensures.value ∙ c.if-is_ascii_digit.false) (sym c.is_letter.ensures ∙ c.if-is_letter.true) (out_low 6 12 _ c.if-n-ge6.false)
+
+pub returns-in_default : goal.returns-in_default
+unfolding within
+returns-in_default c = as_other c.args.s.now c.in-Some.b.now (c.in-Some.ensures.lookup.3.1 0) (sym c.is_ascii_digit.ensures.value ∙ c.if-is_ascii_digit.false) (sym c.is_letter.ensures ∙ c.if-is_letter.false)
+
+pub returns-in_default-2 : goal.returns-in_default-2
+returns-in_default-2 c = let e = rw c.in_default.is at c.get.ensures.lookup.0 in too_short c.args.s.now (ltb-false _ _ (sym e))

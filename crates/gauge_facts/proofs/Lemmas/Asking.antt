@@ -8,6 +8,7 @@ use native.Mathlib.Omega.{arith}
 use borrow.Author.Tests.{eqb-true, eq-eqb, not-false}
 use lib.Dec.{eqb}
 use lib.ListN.{length}
+use Rattle.std.specs.Prelude.{Err, None, Ok, Option, Result, Some}
 use Rattle.buffer.specs.First.{pick}
 use Rattle.buffer.proofs.Rules.{each}
 use Rattle.frames.specs.declared.HeadV2.{HeadV2}
@@ -19,20 +20,14 @@ use Rattle.settings.specs.declared.Setting.{Setting}
 use Rattle.settings.specs.declared.Setting.TheVariants.{Address, PressureIn, Factor, Control, Cathode, Filament, Switch, Stream}
 use Rattle.readings.specs.Reading.{faulty_pressure, faulty_temperature}
 use Rattle.forms.specs.Judged.{verdict_of, list_in}
-use Rattle.forms.specs.declared.Verdict.{Verdict}
-use Rattle.forms.specs.declared.Verdict.TheVariants as verdict
 use Rattle.forms_facts.specs.Sound.{Proper}
 use Rattle.forms_facts.proofs.Exactly.{accepted_form, accepted_with_list}
 use Rattle.requests.specs.Command.{command_of, command_text, read_code, write_code, restore_code, is_access, can_write, lacks_access}
 use Rattle.requests.specs.AskV2.{set_of, write_of, ask_known, ask_named, ask_v2, write_list, named_list, ask_list}
 use Rattle.requests.specs.declared.Command.{Command}
 use Rattle.requests.specs.declared.Command.TheVariants.{MV, T2, FN, FS, Of}
-use Rattle.requests.specs.declared.Named.{Named}
-use Rattle.requests.specs.declared.Named.TheVariants.{Known, Unknown}
 use Rattle.requests.specs.declared.RequestV2.{RequestV2}
 use Rattle.requests.specs.declared.RequestV2.TheVariants.{Read, Restore, Set}
-use Rattle.requests.specs.declared.AskV2.{AskV2}
-use Rattle.requests.specs.declared.AskV2.TheVariants.{Asks, Refused}
 use Rattle.requests_facts.proofs.Commands.{named_exactly}
 use Rattle.request_texts.specs.RequestText.{access_of, command_in}
 use Rattle.gauge_rules.specs.State.{State}
@@ -40,6 +35,7 @@ use Rattle.gauge_rules.specs.RulesV2.{changes_cathode, reads_faulty, grant_v2}
 use Rattle.gauge_table.proofs.DecidedV2.{by}
 use Rattle.gauge_facts.specs.Request.{DataFor, Allowed}
 use Rattle.gauge_facts.proofs.Lemmas.Rows.{past_row}
+use Rattle.refusals.specs.declared.Refusal.{Refusal}
 
 -- ---- what is asked
 
@@ -48,25 +44,25 @@ no_data [] e = refl
 no_data (x ∷ d) e = absurd (let z = eqb-true (length (x ∷ d)) 0 e in omega arith)
 
 -- a list and a request that go by the same test
-both : (P : List ℕ → AskV2 → Type 0) (t : Bool) (a c : List ℕ) (b d : AskV2) → (t ≡ true → P a b) → (t ≡ false → P c d) → P (pick t a c) (pick t b d)
+both : (P : List ℕ → Result RequestV2 Refusal → Type 0) (t : Bool) (a c : List ℕ) (b d : Result RequestV2 Refusal) → (t ≡ true → P a b) → (t ≡ false → P c d) → P (pick t a c) (pick t b d)
 unfolding pick
 both P true a c b d k l = k refl
 both P false a c b d k l = l refl
 
 -- a request that is asked by this access code, command and data, with this list
-abbrev Told : ProfileLimits → ℕ → Named → List ℕ → List ℕ → AskV2 → Type 0
-Told limits a n d list (Asks r) = (a ≡ access_of r) × (n ≡ Known (command_in r)) × DataFor limits r list d
-Told limits a n d list (Refused k) = Unit {0}
+abbrev Told : ProfileLimits → ℕ → Option Command → List ℕ → List ℕ → Result RequestV2 Refusal → Type 0
+Told limits a n d list (Ok r) = (a ≡ access_of r) × (n ≡ Some (command_in r)) × DataFor limits r list d
+Told limits a n d list (Err k) = Unit {0}
 
 module _ (limits : ProfileLimits) (a : ℕ) (d : List ℕ) where
-  set_told : (key : Key) (v : Verdict) → a ≡ write_code → verdict_of limits key d ≡ v → Told limits a (Known (Of key)) d (list_in limits key d) (set_of v)
+  set_told : (key : Key) (v : Result Setting Refusal) → a ≡ write_code → verdict_of limits key d ≡ v → Told limits a (Some (Of key)) d (list_in limits key d) (set_of v)
   unfolding set_of access_of command_in
-  set_told key (verdict.Set x) w e =
+  set_told key (Ok x) w e =
       let h = accepted_form limits key d x (list_in limits key d) e refl in
-      (w, ap (λ (k : Key). Known (Of k)) (sym h.0), (h.1, h.2, h.3))
-  set_told key (verdict.Refused k) w e = tt
+      (w, ap (λ (k : Key). Some (Of k)) (sym h.0), (h.1, h.2, h.3))
+  set_told key (Err k) w e = tt
 
-  written : (c : Command) → a ≡ write_code → Told limits a (Known c) d (write_list limits c d) (write_of limits c d)
+  written : (c : Command) → a ≡ write_code → Told limits a (Some c) d (write_list limits c d) (write_of limits c d)
   unfolding write_list write_of
   written MV w = tt
   written T2 w = tt
@@ -74,11 +70,11 @@ module _ (limits : ProfileLimits) (a : ℕ) (d : List ℕ) where
   written FS w = tt
   written (Of key) w = set_told key (verdict_of limits key d) w refl
 
-  restored : (c : Command) → lacks_access a c ≡ false → d ≡ [] → a ≡ restore_code → Told limits a (Known c) d [] (Asks (Restore c))
+  restored : (c : Command) → lacks_access a c ≡ false → d ≡ [] → a ≡ restore_code → Told limits a (Some c) d [] (Ok (Restore c))
   unfolding lacks_access access_of command_in pick
   restored c l e w = (w, refl, (not-false _ (rw w at l), e, refl))
 
-  taken : (c : Command) → is_access a ≡ true → eqb a write_code ≡ false → eqb a restore_code ≡ false → d ≡ [] → Told limits a (Known c) d [] (Asks (Read c))
+  taken : (c : Command) → is_access a ≡ true → eqb a write_code ≡ false → eqb a restore_code ≡ false → d ≡ [] → Told limits a (Some c) d [] (Ok (Read c))
   unfolding is_access access_of command_in
   taken c i w t e = (eqb-true a read_code (only (eqb a read_code) (eqb a write_code) (eqb a restore_code) i w t), refl, (e, refl))
     where
@@ -89,17 +85,17 @@ module _ (limits : ProfileLimits) (a : ℕ) (d : List ℕ) where
       only false false false h p q = h
 
   unwritten : (c : Command) → is_access a ≡ true → lacks_access a c ≡ false → eqb a write_code ≡ false
-      → Told limits a (Known c) d [] (pick (not (eqb (length d) 0)) (Refused 10) (pick (eqb a restore_code) (Asks (Restore c)) (Asks (Read c))))
+      → Told limits a (Some c) d [] (pick (not (eqb (length d) 0)) (Err Refusal.Syntax) (pick (eqb a restore_code) (Ok (Restore c)) (Ok (Read c))))
   unwritten c i l w =
-      each (Told limits a (Known c) d []) (not (eqb (length d) 0)) (Refused 10) _ (λ _. tt)
-      (λ e. let z = no_data d (not-false _ e) in each (Told limits a (Known c) d []) (eqb a restore_code) (Asks (Restore c)) (Asks (Read c)) (λ t. restored c l z (eqb-true a restore_code t)) (λ t. taken c i w t z))
+      each (Told limits a (Some c) d []) (not (eqb (length d) 0)) (Err Refusal.Syntax) _ (λ _. tt)
+      (λ e. let z = no_data d (not-false _ e) in each (Told limits a (Some c) d []) (eqb a restore_code) (Ok (Restore c)) (Ok (Read c)) (λ t. restored c l z (eqb-true a restore_code t)) (λ t. taken c i w t z))
 
-  named_told : (n : Named) → is_access a ≡ true → Told limits a n d (named_list limits a n d) (ask_named limits a n d)
+  named_told : (n : Option Command) → is_access a ≡ true → Told limits a n d (named_list limits a n d) (ask_named limits a n d)
   unfolding named_list ask_named ask_known
-  named_told Unknown i = tt
-  named_told (Known c) i =
-      both (Told limits a (Known c) d) (lacks_access a c) _ _ _ _ (λ _. tt)
-      (λ l. both (Told limits a (Known c) d) (eqb a write_code) _ _ _ _ (λ w. written c (eqb-true a write_code w)) (λ w. unwritten c i l w))
+  named_told None i = tt
+  named_told (Some c) i =
+      both (Told limits a (Some c) d) (lacks_access a c) _ _ _ _ (λ _. tt)
+      (λ l. both (Told limits a (Some c) d) (eqb a write_code) _ _ _ _ (λ w. written c (eqb-true a write_code w)) (λ w. unwritten c i l w))
 
 asked_told : (limits : ProfileLimits) (h : HeadV2) (d : List ℕ) → Told limits h.access (command_of h.first h.second) d (ask_list limits h d) (ask_v2 limits h d)
 unfolding ask_list ask_v2
@@ -108,32 +104,32 @@ asked_told limits h d =
     (λ i. named_told limits h.access d (command_of h.first h.second) (not-false _ i))
 
 -- what a frame asks has its access code, its command's text and its data
-pub asked_form : (limits : ProfileLimits) (h : HeadV2) (d : List ℕ) (r : RequestV2) (list : List ℕ) → ask_v2 limits h d ≡ Asks r → ask_list limits h d ≡ list
+pub asked_form : (limits : ProfileLimits) (h : HeadV2) (d : List ℕ) (r : RequestV2) (list : List ℕ) → ask_v2 limits h d ≡ Ok r → ask_list limits h d ≡ list
     → (h.access ≡ access_of r) × (h.first ∷ h.second ∷ [] ≡ command_text (command_in r)) × DataFor limits r list d
 asked_form limits h d r list e f =
-    let t : Told limits h.access (command_of h.first h.second) d list (Asks r) = rw (e, f) at (asked_told limits h d) in
+    let t : Told limits h.access (command_of h.first h.second) d list (Ok r) = rw (e, f) at (asked_told limits h d) in
     (t.0, (named_exactly h.first h.second (command_in r)).0 t.1, t.2)
 
 module _ (limits : ProfileLimits) (ok : Proper limits) (h : HeadV2) (d : List ℕ) where
-  read_asked : (c : Command) (list : List ℕ) → h.access ≡ read_code → command_of h.first h.second ≡ Known c → DataFor limits (Read c) list d
-      → (ask_v2 limits h d ≡ Asks (Read c)) × (ask_list limits h d ≡ list)
+  read_asked : (c : Command) (list : List ℕ) → h.access ≡ read_code → command_of h.first h.second ≡ Some c → DataFor limits (Read c) list d
+      → (ask_v2 limits h d ≡ Ok (Read c)) × (ask_list limits h d ≡ list)
   unfolding ask_v2 ask_list is_access pick ask_named named_list ask_known lacks_access
   read_asked c list a n e = rw (a, n, e.0, e.1) (refl, refl)
 
-  restore_asked : (c : Command) (list : List ℕ) → h.access ≡ restore_code → command_of h.first h.second ≡ Known c → DataFor limits (Restore c) list d
-      → (ask_v2 limits h d ≡ Asks (Restore c)) × (ask_list limits h d ≡ list)
+  restore_asked : (c : Command) (list : List ℕ) → h.access ≡ restore_code → command_of h.first h.second ≡ Some c → DataFor limits (Restore c) list d
+      → (ask_v2 limits h d ≡ Ok (Restore c)) × (ask_list limits h d ≡ list)
   unfolding ask_v2 ask_list is_access pick ask_named named_list ask_known lacks_access
   restore_asked c list a n e = rw (a, n, e.0, e.1, e.2) (refl, refl)
 
-  set_asked : (x : Setting) (list : List ℕ) → h.access ≡ write_code → command_of h.first h.second ≡ Known (Of (key_of x)) → DataFor limits (Set x) list d
-      → (ask_v2 limits h d ≡ Asks (Set x)) × (ask_list limits h d ≡ list)
+  set_asked : (x : Setting) (list : List ℕ) → h.access ≡ write_code → command_of h.first h.second ≡ Some (Of (key_of x)) → DataFor limits (Set x) list d
+      → (ask_v2 limits h d ≡ Ok (Set x)) × (ask_list limits h d ≡ list)
   unfolding ask_v2 ask_list is_access pick ask_named named_list ask_known lacks_access can_write write_of write_list set_of
   set_asked x list a n e =
       let w = (accepted_with_list limits ok (key_of x) d x list).1 (refl, e.0, e.1, e.2) in
       rw (a, n, w.0, w.1) (refl, refl)
 
-  told_asked : (r : RequestV2) (list : List ℕ) → h.access ≡ access_of r → command_of h.first h.second ≡ Known (command_in r) → DataFor limits r list d
-      → (ask_v2 limits h d ≡ Asks r) × (ask_list limits h d ≡ list)
+  told_asked : (r : RequestV2) (list : List ℕ) → h.access ≡ access_of r → command_of h.first h.second ≡ Some (command_in r) → DataFor limits r list d
+      → (ask_v2 limits h d ≡ Ok r) × (ask_list limits h d ≡ list)
   unfolding access_of command_in
   told_asked (Read c) list a n e = read_asked c list a n e
   told_asked (Restore c) list a n e = restore_asked c list a n e
@@ -141,7 +137,7 @@ module _ (limits : ProfileLimits) (ok : Proper limits) (h : HeadV2) (d : List �
 
   -- a frame asks a request, with a list of sources beside it, exactly if its access code, its command's text and its data are those of the request
   pub asked_exactly : (r : RequestV2) (list : List ℕ)
-      → ((ask_v2 limits h d ≡ Asks r) × (ask_list limits h d ≡ list)) ↔ ((h.access ≡ access_of r) × (h.first ∷ h.second ∷ [] ≡ command_text (command_in r)) × DataFor limits r list d)
+      → ((ask_v2 limits h d ≡ Ok r) × (ask_list limits h d ≡ list)) ↔ ((h.access ≡ access_of r) × (h.first ∷ h.second ∷ [] ≡ command_text (command_in r)) × DataFor limits r list d)
   asked_exactly r list = (λ w. asked_form limits h d r list w.0 w.1, λ w. told_asked r list w.0 ((named_exactly h.first h.second (command_in r)).1 w.1) w.2)
 
 -- ---- what the state allows

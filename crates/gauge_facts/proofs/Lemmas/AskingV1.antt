@@ -8,6 +8,7 @@ use native.Mathlib.Omega.{arith}
 use borrow.Author.Tests.{eqb-true, eq-eqb, not-false}
 use lib.Dec.{eqb}
 use lib.ListN.{length}
+use Rattle.std.specs.Prelude.{Err, Ok, Result}
 use Rattle.buffer.specs.First.{pick}
 use Rattle.buffer.specs.Byte.{within, is_digit, every, numeral}
 use Rattle.buffer.proofs.Rules.{each}
@@ -17,14 +18,10 @@ use Rattle.settings.specs.declared.PressureUnit.{PressureUnit}
 use Rattle.settings.specs.declared.PressureUnit.TheVariants.{Mbar, Torr, HPa}
 use Rattle.readings.specs.Reading.{faulty_pressure}
 use Rattle.forms.specs.Forms.{digit_data}
-use Rattle.forms.specs.declared.Digit.{Digit}
-use Rattle.forms.specs.declared.Digit.TheVariants.{Is}
 use Rattle.forms_facts.proofs.Digit.{digit_exactly}
 use Rattle.requests.specs.AskV1.{six_digits, bare_of, digit_one, one_of, unit_at, ask_v1}
 use Rattle.requests.specs.declared.RequestV1.{RequestV1}
 use Rattle.requests.specs.declared.RequestV1.TheVariants.{Measure, ReadFactor, Unlock, SetFactor, ReadUnit, SetUnit}
-use Rattle.requests.specs.declared.AskV1.{AskV1}
-use Rattle.requests.specs.declared.AskV1.TheVariants.{Asks}
 use Rattle.settings.specs.Units.{unit_code}
 use Rattle.request_texts.specs.RequestText.{letter_v1, head_for_v1}
 use Rattle.frame_writer.specs.Sendable.{SendableV1}
@@ -35,28 +32,29 @@ use Rattle.gauge_facts.specs.Request.{SixDigits, DataForV1, AllowedV1}
 use Rattle.gauge_facts.proofs.Lemmas.Rows.{past_row}
 use Rattle.gauge_facts.proofs.Lemmas.Asking.{no_data}
 use Rattle.gauge_facts.proofs.Lemmas.Carried.{digits_printed}
+use Rattle.refusals.specs.declared.Refusal.{Refusal}
 
 -- ---- what is asked
 
 -- a request that is asked by this letter and these data
-abbrev Told : ℕ → List ℕ → AskV1 → Type 0
-Told l d (Asks r) = (l ≡ letter_v1 r) × DataForV1 r d
-Told l d (AskV1.Refused k) = Unit {0}
+abbrev Told : ℕ → List ℕ → Result RequestV1 Refusal → Type 0
+Told l d (Ok r) = (l ≡ letter_v1 r) × DataForV1 r d
+Told l d (Err k) = Unit {0}
 
 module _ (l : ℕ) (d : List ℕ) where
   bare : (r : RequestV1) → l ≡ letter_v1 r → (d ≡ [] → DataForV1 r d) → Told l d (bare_of d r)
   unfolding bare_of
-  bare r e f = each (Told l d) (not (eqb (length d) 0)) (AskV1.Refused 10) (Asks r) (λ _. tt) (λ z. (e, f (no_data d (not-false _ z))))
+  bare r e f = each (Told l d) (not (eqb (length d) 0)) (Err Refusal.Syntax) (Ok r) (λ _. tt) (λ z. (e, f (no_data d (not-false _ z))))
 
   one : (r : RequestV1) → l ≡ letter_v1 r → (d ≡ 49 ∷ [] → DataForV1 r d) → Told l d (one_of d r)
   unfolding one_of digit_one
   one r e f = go (digit_data 9 d) refl
     where
-      go : (x : Digit) → digit_data 9 d ≡ x → Told l d (digit_one x r)
-      go (Is v) h =
-          each (Told l d) (not (eqb v 1)) (AskV1.Refused 11) (Asks r) (λ _. tt)
+      go : (x : Result ℕ Refusal) → digit_data 9 d ≡ x → Told l d (digit_one x r)
+      go (Ok v) h =
+          each (Told l d) (not (eqb v 1)) (Err Refusal.Range) (Ok r) (λ _. tt)
           (λ z. let n : v ≡ 1 = eqb-true v 1 (not-false _ z) in (e, f (rw n at ((digit_exactly 9 d v).0 h).0)))
-      go (Digit.Refused k) h = tt
+      go (Err k) h = tt
 
   six : (n : ℕ) → numeral d ≡ n → six_digits d ≡ true → SixDigits n d
   unfolding six_digits
@@ -65,9 +63,9 @@ module _ (l : ℕ) (d : List ℕ) where
   unit : l ≡ 117 → six_digits d ≡ true → Told l d (unit_at (numeral d))
   unfolding unit_at unit_code letter_v1
   unit e h =
-      each (Told l d) (eqb (numeral d) 0) (Asks (SetUnit Mbar)) _ (λ z. (e, six 0 (eqb-true _ 0 z) h))
-      (λ _. each (Told l d) (eqb (numeral d) 1) (Asks (SetUnit Torr)) _ (λ z. (e, six 1 (eqb-true _ 1 z) h))
-      (λ _. each (Told l d) (eqb (numeral d) 2) (Asks (SetUnit HPa)) (AskV1.Refused 11) (λ z. (e, six 2 (eqb-true _ 2 z) h)) (λ _. tt)))
+      each (Told l d) (eqb (numeral d) 0) (Ok (SetUnit Mbar)) _ (λ z. (e, six 0 (eqb-true _ 0 z) h))
+      (λ _. each (Told l d) (eqb (numeral d) 1) (Ok (SetUnit Torr)) _ (λ z. (e, six 1 (eqb-true _ 1 z) h))
+      (λ _. each (Told l d) (eqb (numeral d) 2) (Ok (SetUnit HPa)) (Err Refusal.Range) (λ z. (e, six 2 (eqb-true _ 2 z) h)) (λ _. tt)))
 
   asked_told : Told l d (ask_v1 l d)
   unfolding ask_v1 letter_v1
@@ -75,13 +73,13 @@ module _ (l : ℕ) (d : List ℕ) where
       each (Told l d) (eqb l 77) (bare_of d Measure) _ (λ a. bare Measure (eqb-true l 77 a) (λ e. e))
       (λ _. each (Told l d) (eqb l 67) (one_of d ReadFactor) _ (λ a. one ReadFactor (eqb-true l 67 a) (λ e. e))
       (λ _. each (Told l d) (eqb l 99) _ _
-      (λ a. each (Told l d) (six_digits d) (Asks (SetFactor (numeral d))) (one_of d Unlock) (λ h. (eqb-true l 99 a, six (numeral d) refl h)) (λ _. one Unlock (eqb-true l 99 a) (λ e. e)))
+      (λ a. each (Told l d) (six_digits d) (Ok (SetFactor (numeral d))) (one_of d Unlock) (λ h. (eqb-true l 99 a, six (numeral d) refl h)) (λ _. one Unlock (eqb-true l 99 a) (λ e. e)))
       (λ _. each (Told l d) (eqb l 85) (bare_of d ReadUnit) _ (λ a. bare ReadUnit (eqb-true l 85 a) (λ e. e))
-      (λ _. each (Told l d) (eqb l 117) _ (AskV1.Refused 8)
-      (λ a. each (Told l d) (six_digits d) (unit_at (numeral d)) (AskV1.Refused 10) (λ h. unit (eqb-true l 117 a) h) (λ _. tt))
+      (λ _. each (Told l d) (eqb l 117) _ (Err Refusal.NoDef)
+      (λ a. each (Told l d) (six_digits d) (unit_at (numeral d)) (Err Refusal.Syntax) (λ h. unit (eqb-true l 117 a) h) (λ _. tt))
       (λ _. tt)))))
 
-  told_asked : (r : RequestV1) → l ≡ letter_v1 r → DataForV1 r d → ask_v1 l d ≡ Asks r
+  told_asked : (r : RequestV1) → l ≡ letter_v1 r → DataForV1 r d → ask_v1 l d ≡ Ok r
   unfolding ask_v1 letter_v1 bare_of one_of digit_one digit_data six_digits unit_at unit_code within every pick
   told_asked Measure e f = rw (e, f)
   told_asked ReadFactor e f = rw (e, f)
@@ -90,13 +88,13 @@ module _ (l : ℕ) (d : List ℕ) where
   told_asked ReadUnit e f = rw (e, f)
   told_asked (SetUnit u) e f = rw (e, f.0, f.1, f.2) (again u)
     where
-      again : (u : PressureUnit) → unit_at (unit_code u) ≡ Asks (SetUnit u)
+      again : (u : PressureUnit) → unit_at (unit_code u) ≡ Ok (SetUnit u)
       again Mbar = refl
       again Torr = refl
       again HPa = refl
 
   -- a frame asks a request exactly if its letter and its data are those of the request
-  pub asked_v1_exactly : (r : RequestV1) → (ask_v1 l d ≡ Asks r) ↔ ((l ≡ letter_v1 r) × DataForV1 r d)
+  pub asked_v1_exactly : (r : RequestV1) → (ask_v1 l d ≡ Ok r) ↔ ((l ≡ letter_v1 r) × DataForV1 r d)
   asked_v1_exactly r = (λ e. rw e at asked_told, λ w. told_asked r w.0 w.1)
 
 -- ---- what can be sent

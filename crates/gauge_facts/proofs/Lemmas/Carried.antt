@@ -6,11 +6,11 @@ use mathlib.Core.Logic.{◌⊎◌, inl, inr}
 use Prim.Native.Nat.{ℕ, ◌+◌, ◌≤◌}
 use native.Mathlib.Omega.{arith}
 use lib.ListN.{length, length-append}
+use Rattle.std.specs.Prelude.{Ok}
 use Rattle.buffer.specs.Byte.{at, within, is_digit, every, Printed}
 use Rattle.buffer.proofs.Laws.{within_true}
 use Rattle.decimal.specs.Form.{number_of}
 use Rattle.decimal.specs.declared.Number.{Number}
-use Rattle.decimal.specs.declared.Parsed.TheVariants.{Value}
 use Rattle.decimal_facts.specs.Grammar.{Parts, Good, dash, point, exponent, spelled_of}
 use Rattle.sources.specs.Source.{list_text}
 use Rattle.sources.specs.declared.Profile.TheVariants.{Standard}
@@ -102,7 +102,7 @@ form_fits p g =
     let c = fits_join _ _ (dash p.negative ++ p.whole ++ point p.fraction) (exponent p.mark p.below p.power) b (exponent_fits p.mark p.below p.power g.marked g.power_digits) in
     more _ 12 _ (omega (arith, g.six, g.two)) c
 
-number_fits : (s : List ℕ) (n : Number) → number_of s ≡ Value n → Fits 12 s
+number_fits : (s : List ℕ) (n : Number) → number_of s ≡ Ok n → Fits 12 s
 number_fits s n e = let w = read_form s n e in rw w.2 at (form_fits w.0 w.1)
 
 -- ---- the data of each setting

@@ -1,11 +1,10 @@
 -- `line::rows_of` meets its contract. The invariant: with the values that are left stored from row i + 1 on, the rows are as they are to be.
-use mathlib.Core.Path.{◌≡◌, refl, sym, ap, ◌∙◌}
+use mathlib.Core.Path.{◌≡◌, sym, ap, ◌∙◌}
 use mathlib.Core.List.{List, []}
-use Prim.Native.Nat.{ℕ, ◌+◌, ◌≤◌}
+use Prim.Native.Nat.{ℕ, ◌≤◌}
 use native.Mathlib.Omega.{arith}
 use borrow.Author.Rules.{rules}
-use lib.ListN.{length, take, drop, get_or, length-take, drop_of_length-le}
-use lib.Seq.{get_or-take}
+use lib.ListN.{length, take, drop, get_or, drop_of_length-le}
 use Rattle.buffer.proofs.Laws.{take_taken}
 use Rattle.sources.specs.Source.{list_of}
 use Rattle.sources.specs.declared.Sources.{Sources}
@@ -27,39 +26,24 @@ row : (r : Readings) (code width : ℕ) (text made : List ℕ) → made ≡ row_
 unfolding line_value
 row r code width text made e w t = rw (w, t) at e
 
-pub loop-i-init : goal.loop-i-init
-loop-i-init c = (omega arith, refl)
-
-pub bounds-codes-i : goal.bounds-codes-i
-bounds-codes-i c = omega (arith, size_le c.size-n.result c.args.list (search rules) c.size-n.ensures)
-
-pub overflow_add-i : goal.overflow_add-i
-overflow_add-i c = omega (arith, size_le c.size-n.result c.args.list (search rules) c.size-n.ensures)
-
-pub offset_bounds-rows-i : goal.offset_bounds-rows-i
-offset_bounds-rows-i c = omega (arith, size_le c.size-n.result c.args.list (search rules) c.size-n.ensures)
-
-pub bounds-rows-i : goal.bounds-rows-i
-bounds-rows-i c = omega (arith, size_le c.size-n.result c.args.list (search rules) c.size-n.ensures)
+pub shared_ref_as_front-listed : goal.shared_ref_as_front-listed
+shared_ref_as_front-listed c = size_le c.size.result c.args.list (search rules) c.size.ensures
 
 pub loop-i-preserved : goal.loop-i-preserved
 loop-i-preserved c =
     let a = c.args in
-    let n = c.size-n.result in
+    let n = c.size.result in
     let codes = a.list.codes in
-    let w : length codes ≡ 7 = search rules in
     let i = c.loop-i.i in
-    let in' : i + 1 ≤ length (take n codes) = simp length-take (omega (arith, size_le n a.list w c.size-n.ensures, w)) in
-    let same : c.row_of-in-loop-i.result ≡ row_of (line_value a.r (get_or (take n codes) i 0)) =
-    row a.r (get_or codes i 0) _ _ _ c.row_of-in-loop-i.ensures c.width-in-loop-i.ensures c.text-in-loop-i.ensures ∙ sym (ap (λ (k : ℕ). row_of (line_value a.r k)) (get_or-take n codes i 0 (omega arith))) in
-    (omega arith, rw same (sym (rows_step (line_value a.r) c.loop-i.rows (take n codes) i (omega (arith, in'))) ∙ c.loop-i.invariant.1))
+    let same : c.row_of-in-loop-i.result ≡ row_of (line_value a.r (get_or (take n codes) i 0)) = row a.r _ _ _ _ c.row_of-in-loop-i.ensures c.width-in-loop-i.ensures c.text-in-loop-i.ensures in
+    rw same (sym (rows_step (line_value a.r) c.loop-i.rows (take n codes) i (omega arith)) ∙ c.loop-i.invariant)
 
 pub returns : goal.returns
 unfolding rows_of values_of list_of
 returns c =
     let l = c.loop-i in
     let q = c.args.list in
-    let n = c.size-n.result in
-    let e : take n q.codes ≡ list_of q = ap (λ (k : ℕ). take k q.codes) c.size-n.ensures ∙ take_taken q.count q.codes in
-    let none : drop l.i (take n q.codes) ≡ [] = drop_of_length-le (take n q.codes) {i = l.i} (simp length-take (omega arith)) in
-    rw (none, e, row c.args.r 0 _ _ _ c.row_of.ensures c.width.ensures c.text.ensures) at l.invariant.1
+    let n = c.size.result in
+    let e : take n q.codes ≡ list_of q = ap (λ (k : ℕ). take k q.codes) c.size.ensures ∙ take_taken q.count q.codes in
+    let none : drop l.i (take n q.codes) ≡ [] = drop_of_length-le (take n q.codes) {i = l.i} (omega arith) in
+    rw (none, e, row c.args.r 0 _ _ _ c.row_of.ensures c.width.ensures c.text.ensures) at l.invariant

@@ -29,12 +29,12 @@ the_line profile q shown r rows e f =
 pub returns-then-out-room : goal.returns-then-out-room
 returns-then-out-room c =
     let little : length c.args.out.now < longest_line (limits_of c.args.profile).source_codes = rw c.room.ensures at c.if-out-room.true in
-    refuses _ 1 (no_room _ _ _ _ little)
+    rw c.number.ensures (refuses _ 1 (no_room _ _ _ _ little))
 
-pub returns-then-not-streaming : goal.returns-then-not-streaming
-returns-then-not-streaming c =
+pub returns-then-not-s : goal.returns-then-not-s
+returns-then-not-s c =
     let room : longest_line (limits_of c.args.profile).source_codes ≤ length c.args.out.now = rw c.room.ensures at c.if-out-room.false in
-    let none : not c.args.s.streaming ≡ true = ap not c.if-not-streaming.true in
+    let none : not c.args.s.streaming ≡ true = c.if-not-s.true in
     refuses _ 0 (no_line _ _ _ _ room none)
 
 pub write_line-len-requires : goal.write_line-len-requires
@@ -44,7 +44,7 @@ pub returns : goal.returns
 returns c =
     let codes = (limits_of c.args.profile).source_codes in
     let room : longest_line codes ≤ length c.args.out.now = rw c.room.ensures at c.if-out-room.false in
-    let some : not c.args.s.streaming ≡ false = ap not c.if-not-streaming.false in
+    let some : not c.args.s.streaming ≡ false = c.if-not-s.false in
     sends
     0
     c.write_line-len.result

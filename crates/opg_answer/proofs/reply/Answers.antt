@@ -6,4 +6,4 @@ use Rattle.opg_answer.proofs.reply.Goals as goal
 
 pub returns-in-Silent : goal.returns-in-Silent
 unfolding replied
-returns-in-Silent c = rw c.in-Silent.is (refuses _ _ refl)
+returns-in-Silent c = rw (c.in-Err.is, c.in-Silent.is, c.answer.ensures) (refuses _ _ refl)

@@ -26,5 +26,5 @@ slice_bounds-write_reply_frame-end c =
 pub returns : goal.returns
 unfolding sent_reply
 returns c =
-    rw (c.request_pid.ensures, c.reply_cmd.ensures, c.reply_count-n.ensures, c.reply_bytes-bytes.ensures, data_is c.args.g c.args.r)
+    rw (c.pid.ensures, c.reply_cmd.ensures, c.reply_count-n.ensures, c.reply_bytes-bytes.ensures, data_is c.args.g c.args.r)
     at c.write_reply_frame.ensures

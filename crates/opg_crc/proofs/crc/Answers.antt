@@ -5,18 +5,17 @@ use Rattle.opg_crc.specs.Crc.{crc_of}
 use Rattle.opg_crc.proofs.Laws.{byte_lt, crc_step, crc_end}
 use Rattle.opg_crc.proofs.crc.Goals as goal
 
-pub loop-i-init : goal.loop-i-init
+pub loop-b-init : goal.loop-b-init
 unfolding crc_of
-loop-i-init c = (omega arith, omega arith, refl)
+loop-b-init c = (omega arith, refl)
 
-pub loop-i-preserved : goal.loop-i-preserved
-loop-i-preserved c =
-    let l = c.loop-i in
+pub loop-b-preserved : goal.loop-b-preserved
+loop-b-preserved c =
+    let l = c.loop-b in
     let s = c.args.s.now in (
-      omega arith,
-      rw c.byte-c.ensures (byte_lt l.c _ l.invariant.1 (omega arith)),
-      rw c.byte-c.ensures (sym (crc_step l.c s l.i (omega arith) l.invariant.1 (omega arith)) ∙ l.invariant.2),
+      rw c.byte-c.ensures (byte_lt l.c _ l.invariant.0 (omega arith)),
+      rw c.byte-c.ensures (sym (crc_step l.c s l.b-index (omega arith) l.invariant.0 (omega arith)) ∙ l.invariant.1),
     )
 
 pub returns : goal.returns
-returns c = let l = c.loop-i in sym (crc_end l.c c.args.s.now l.i c.loop-i-test.false l.invariant.1) ∙ l.invariant.2
+returns c = let l = c.loop-b in sym (crc_end l.c c.args.s.now l.b-index (omega arith) l.invariant.0) ∙ l.invariant.1

@@ -10,7 +10,3 @@ pub returns-then-out-at : goal.returns-then-out-at
 returns-then-out-at c =
     let a = c.args in
     record { memory = sym (sets_out a.out.now a.at (crc_bytes (take a.at a.out.now)) (omega arith)) }
-
-pub returns : goal.returns
-unfolding crc_bytes
-returns c = rw c.crc-c.ensures at c.put.ensures

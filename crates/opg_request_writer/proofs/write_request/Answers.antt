@@ -5,6 +5,7 @@ use Prim.Native.Nat.{ℕ, ◌≤◌}
 use native.Mathlib.Omega.{arith}
 use lib.ListN.{length, length-take}
 use Rattle.buffer.proofs.Laws.{refuses}
+use Rattle.opg_frames.specs.Number.{refusal_number, error_byte}
 use Rattle.opg_commands.specs.declared.Request.{Request}
 use Rattle.opg_request_writer.specs.Inner.{request_count, request_bytes}
 use Rattle.opg_request_writer.proofs.Laws.{data_is, count_le, no_room, outside, sent}
@@ -15,10 +16,12 @@ part : (r : Request) (n : ℕ) (bytes : List ℕ) → n ≡ request_count r → 
 part r n bytes h k = rw (h, k) (count_le r)
 
 pub returns-then-out-lt32 : goal.returns-then-out-lt32
-returns-then-out-lt32 c = refuses _ 21 (no_room _ _ c.if-out-lt32.true)
+unfolding refusal_number
+returns-then-out-lt32 c = rw c.answer.ensures (refuses _ 21 (no_room _ _ c.if-out-lt32.true))
 
 pub returns-then-is_outside : goal.returns-then-is_outside
-returns-then-is_outside c = refuses _ 1002 (outside _ _ c.if-out-lt32.false (sym c.is_outside.ensures ∙ c.if-is_outside.true))
+unfolding error_byte
+returns-then-is_outside c = rw c.number.ensures (refuses _ 1002 (outside _ _ c.if-out-lt32.false (sym c.is_outside.ensures ∙ c.if-is_outside.true)))
 
 pub slice_bounds-bytes-end : goal.slice_bounds-bytes-end
 slice_bounds-bytes-end c = part c.args.r _ _ c.request_count-n.ensures c.request_bytes-bytes.ensures
@@ -32,5 +35,5 @@ pub returns : goal.returns
 returns c =
     let a = c.args in
     rw (sent (length a.out.now) a.r c.if-out-lt32.false (sym c.is_outside.ensures ∙ c.if-is_outside.false))
-    (rw (c.request_pid.ensures, c.request_cmd.ensures, c.request_count-n.ensures, c.request_bytes-bytes.ensures, data_is a.r)
+    (rw (c.pid.ensures, c.cmd.ensures, c.request_count-n.ensures, c.request_bytes-bytes.ensures, data_is a.r)
     at c.write_request_frame.ensures)

@@ -7,16 +7,13 @@ use native.Mathlib.Nat.{eq_of_mul-eq-mul_right, mul-pos}
 use native.Mathlib.Omega.{arith}
 use borrow.Author.Tests.{le-ltb, lt-leb}
 use lib.Dec.{eqb, leb}
+use Rattle.std.specs.Prelude.{Err, None, Ok, Option, Result, Some}
 use Rattle.buffer.specs.First.{pick}
 use Rattle.buffer.proofs.Rules.{each}
 use Rattle.decimal.specs.Exact.{units, normal_of}
 use Rattle.decimal.specs.Number.{hundredths_of}
 use Rattle.decimal.specs.declared.Number.{Number}
 use Rattle.decimal.specs.declared.Exact.{Exact}
-use Rattle.decimal.specs.declared.Parsed.{Parsed}
-use Rattle.decimal.specs.declared.Parsed.TheVariants.{Value, Syntax, Range}
-use Rattle.decimal.specs.declared.Hundredths as counts
-use Rattle.decimal.specs.declared.Hundredths.TheVariants.{Whole, Other}
 use Rattle.decimal.proofs.Sizes.{ten_pos, units_pos}
 use Rattle.decimal_facts.specs.Canonical.{Canonical, Exactly}
 use Rattle.decimal_facts.proofs.Value.{answers, exact, hundredths_exactly}
@@ -36,13 +33,12 @@ use Rattle.readings.specs.declared.Reading.TheVariants.{P0, P1, P2, P6, P7, T2, 
 use Rattle.readings.specs.declared.Readings.{Readings}
 use Rattle.readings.specs.declared.Bench.{Bench}
 use Rattle.readings.specs.declared.Bench.TheVariants.{Reads, Status}
-use Rattle.readings.specs.declared.Benched.{Benched}
-use Rattle.readings.specs.declared.Benched.TheVariants.{Accepted, Refused}
 use Rattle.settings.specs.Limits.{bench_limits}
 use Rattle.readings_facts.specs.Handed.{Hundredths, HandedPressure, value, under, over, faulty, HandedTemperature, degrees, failed, Handed}
 use Rattle.readings_facts.proofs.Places.{get_put}
 use Rattle.readings_facts.specs.Sound.{SoundPressure, SoundTemperature, SoundReading}
 use Rattle.readings_facts.proofs.Lemmas.Good.{negative_some}
+use Rattle.decimal.specs.declared.NumberError.{NumberError}
 
 -- what is zero has no sign
 zero_plus : (n : Number) → Canonical n → units n ≡ 0 → n.negative ≡ false
@@ -63,9 +59,9 @@ some_digits h d u k p e = by_zero d (λ (z : d ≡ 0). absurd (omega (arith, mul
 
 -- ---- what is accepted was handed over
 
-abbrev Overs : Bench → Benched → Type 0
-Overs b (Accepted x) = Handed b x
-Overs b Refused = Unit {0}
+abbrev Overs : Bench → Option Reading → Type 0
+Overs b (Some x) = Handed b x
+Overs b None = Unit {0}
 
 pressure_over : (b : Bench) (code : ℕ) (p : Pressure) → HandedPressure b p → Overs b (pressure_at code p)
 unfolding pressure_at
@@ -83,15 +79,14 @@ temperature_over b code t f =
     (λ _. each (Overs b) _ _ _ (λ _. f) (λ _. tt))
 
 module _ (code : ℕ) (x : Exact) where
-  number_over : (p : Parsed) → ((n : Number) → p ≡ Value n → Exactly x n) → Overs (Reads code x) (pressure_of code p)
+  number_over : (p : Result Number NumberError) → ((n : Number) → p ≡ Ok n → Exactly x n) → Overs (Reads code x) (pressure_of code p)
   unfolding pressure_of
-  number_over (Value n) f =
+  number_over (Ok n) f =
       each (Overs (Reads code x)) _ _ _ (λ _. tt) (λ _. pressure_over (Reads code x) code _ (value (f n refl)))
-  number_over Syntax f = tt
-  number_over Range f = tt
+  number_over (Err e) f = tt
 
   -- a number's hundredths are the value's
-  hundredths_too : (n : Number) (h : ℕ) → Exactly x n → hundredths_of n ≡ Whole h → Hundredths x n.negative h
+  hundredths_too : (n : Number) (h : ℕ) → Exactly x n → hundredths_of n ≡ Some h → Hundredths x n.negative h
   hundredths_too n h f e =
       let u = ((hundredths_exactly n h).0 e).0 in
       let s : h * 10 ^ 12 * 10 ^ x.down ≡ x.digits * 10 ^ x.up * 10 ^ 14 = rw u at f.size in
@@ -101,17 +96,16 @@ module _ (code : ℕ) (x : Exact) where
         zero = λ (z : h ≡ 0). zero_plus n f.canonical (omega arith);
       }
 
-  degrees_over : (negative : Bool) (h : counts.Hundredths) → ((k : ℕ) → h ≡ Whole k → Hundredths x negative k) → Overs (Reads code x) (degrees_of code negative h)
+  degrees_over : (negative : Bool) (h : Option ℕ) → ((k : ℕ) → h ≡ Some k → Hundredths x negative k) → Overs (Reads code x) (degrees_of code negative h)
   unfolding degrees_of
-  degrees_over negative (Whole h) f =
+  degrees_over negative (Some h) f =
       each (Overs (Reads code x)) _ _ _ (λ _. tt) (λ _. temperature_over (Reads code x) code _ (degrees (f h refl)))
-  degrees_over negative Other f = tt
+  degrees_over negative None f = tt
 
-  celsius_over : (p : Parsed) → ((n : Number) → p ≡ Value n → Exactly x n) → Overs (Reads code x) (temperature_of code p)
+  celsius_over : (p : Result Number NumberError) → ((n : Number) → p ≡ Ok n → Exactly x n) → Overs (Reads code x) (temperature_of code p)
   unfolding temperature_of
-  celsius_over (Value n) f = degrees_over n.negative (hundredths_of n) (λ k e. hundredths_too n k (f n refl) e)
-  celsius_over Syntax f = tt
-  celsius_over Range f = tt
+  celsius_over (Ok n) f = degrees_over n.negative (hundredths_of n) (λ k e. hundredths_too n k (f n refl) e)
+  celsius_over (Err e) f = tt
 
 all_over : (b : Bench) → Overs b (bench_of b)
 unfolding bench_of
@@ -124,14 +118,14 @@ all_over (Bench.Faulty code) =
     each (Overs (Bench.Faulty code)) _ _ _ (λ _. temperature_over (Bench.Faulty code) code _ failed) (λ _. pressure_over (Bench.Faulty code) code _ faulty)
 all_over (Status v) = each (Overs (Status v)) _ _ _ (λ _. tt) (λ _. refl)
 
-pub handed_over : (b : Bench) (x : Reading) → bench_of b ≡ Accepted x → Handed b x
+pub handed_over : (b : Bench) (x : Reading) → bench_of b ≡ Some x → Handed b x
 handed_over b x e = rw e at (all_over b)
 
 -- ---- what is handed over, and allowed, is accepted
 
 -- at a pressure source
 pressure_back : {b : Bench} {p : Pressure} (code : ℕ) (x : Reading) → some code ≡ names b → leb 8 code ≡ false → ((n : Number) → p ≡ Measured n → takes code n ≡ true)
-    → pressure_at code p ≡ Accepted x → HandedPressure b p → bench_of b ≡ Accepted x
+    → pressure_at code p ≡ Some x → HandedPressure b p → bench_of b ≡ Some x
 unfolding bench_of names pressure_of pick
 pressure_back code x e l t a (value {code = c} {x = y} {n = n} f) =
     let k : code ≡ c = cc in
@@ -146,7 +140,7 @@ some_size h d u k p e = by_zero h (λ (z : h ≡ 0). absurd (omega (arith, units
 
 -- h hundredths as a number
 hundredths_number : (x : Exact) (negative : Bool) (h : ℕ) → h < 100000 → Hundredths x negative h
-    → (n : Number) × Exactly x n × (hundredths_of n ≡ Whole h) × (n.negative ≡ negative)
+    → (n : Number) × Exactly x n × (hundredths_of n ≡ Some h) × (n.negative ≡ negative)
 hundredths_number x negative h k f =
     let y : Exact = record { negative = cond (eqb h 0) false x.negative; digits = h; up = 0; down = 2 } in
     let w = decimals_count x.negative h (normal_of y) k (answers y) in
@@ -175,7 +169,7 @@ at_most false = omega arith
 
 -- at a temperature source
 temperature_back : {b : Bench} {t : Temperature} (code : ℕ) (x : Reading) → some code ≡ names b → leb 8 code ≡ true → SoundTemperature t
-    → temperature_at code t ≡ Accepted x → HandedTemperature b t → bench_of b ≡ Accepted x
+    → temperature_at code t ≡ Some x → HandedTemperature b t → bench_of b ≡ Some x
 unfolding bench_of names temperature_of degrees_of pick
 temperature_back code x e l s a (degrees {code = c} {x = y} {negative = negative} {h = h} f) =
     let k : code ≡ c = cc in
@@ -191,11 +185,11 @@ or_true false = refl
 taken : (code : ℕ) (p : Pressure) → SoundPressure p → (n : Number) → p ≡ Measured n → takes code n ≡ true
 unfolding takes
 taken code (Measured k) s n e = let q : k ≡ n = cc in rw (← q, s.1) (or_true (eqb code 7))
-taken code Pressure.UnderRange s n e = absurd (let z : ◌≡◌ {A = ℕ} 0 1 = cc in omega arith)
-taken code Pressure.OverRange s n e = absurd (let z : ◌≡◌ {A = ℕ} 0 1 = cc in omega arith)
-taken code Pressure.Faulty s n e = absurd (let z : ◌≡◌ {A = ℕ} 0 1 = cc in omega arith)
+taken code Pressure.UnderRange s n e = absurd (cc)
+taken code Pressure.OverRange s n e = absurd (cc)
+taken code Pressure.Faulty s n e = absurd (cc)
 
-pub handed_back : (b : Bench) (x : Reading) → names b ≡ code_of (place_of x) → Handed b x → SoundReading x → bench_of b ≡ Accepted x
+pub handed_back : (b : Bench) (x : Reading) → names b ≡ code_of (place_of x) → Handed b x → SoundReading x → bench_of b ≡ Some x
 unfolding code_of place_of pressure_at temperature_at bench_of takes pick
 handed_back b (P0 p) e f s = pressure_back 0 (P0 p) (sym e) refl (taken 0 p s) refl f
 handed_back b (P1 p) e f s = pressure_back 1 (P1 p) (sym e) refl (taken 1 p s) refl f

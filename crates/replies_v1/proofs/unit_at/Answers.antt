@@ -3,9 +3,9 @@ use Rattle.settings.proofs.Laws.{unit_by}
 use Rattle.replies_v1.specs.ReplyV1.{unit_at}
 use Rattle.replies_v1.proofs.unit_at.Goals as goal
 
-pub returns-in-Unit : goal.returns-in-Unit
+pub returns-in-Some : goal.returns-in-Some
 unfolding unit_at
-returns-in-Unit c = rw (unit_by _ _ c.args.n, ← c.unit_named.ensures, c.in-Unit.is)
+returns-in-Some c = rw (unit_by _ _ c.args.n, ← c.unit_named.ensures, c.in-Some.is)
 
 pub returns-in-None : goal.returns-in-None
 unfolding unit_at

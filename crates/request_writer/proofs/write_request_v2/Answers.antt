@@ -1,21 +1,23 @@
 -- `request_writer::write_request_v2` meets its contract.
-use mathlib.Core.Path.{sym, ◌∙◌}
+use mathlib.Core.Path.{refl, sym, ◌∙◌}
 use native.Mathlib.Omega.{arith}
 use Rattle.buffer.proofs.Laws.{refuses}
-use Rattle.request_writer.proofs.Laws.{no_room_v2, outside_v2_lem, sent_is_v2}
+use Rattle.request_texts.specs.RequestText.{head_for}
+use Rattle.frame_writer.proofs.Laws.{sent_v2_lem}
+use Rattle.request_writer.specs.Written.{sent_v2}
+use Rattle.request_writer.proofs.Laws.{carried_v2, lent_is, written_is_v2}
 use Rattle.request_writer.proofs.write_request_v2.Goals as goal
 
-pub returns-then-out-lt-ROOM : goal.returns-then-out-lt-ROOM
-returns-then-out-lt-ROOM c = rw c.refused.ensures (refuses _ 1 (no_room_v2 _ _ _ _ _ c.if-out-lt-ROOM.true))
+pub returns-in-Err : goal.returns-in-Err
+unfolding sent_v2
+returns-in-Err c = rw (written_is_v2 _ _ _ _ _, sym c.formed_v2.ensures ∙ c.in-Err.is, c.refused.ensures) (refuses _ _ refl)
 
-pub returns-then-not-is_address : goal.returns-then-not-is_address
-returns-then-not-is_address c = rw c.refused-then-not-is_address.ensures (refuses _ 4 (outside_v2_lem _ _ _ _ _ c.if-out-lt-ROOM.false (sym c.is_address.ensures ∙ c.if-not-is_address.true)))
-
-pub send_v2-requires : goal.send_v2-requires
-send_v2-requires c = (omega (arith, c.if-out-lt-ROOM.false), sym c.is_address.ensures ∙ c.if-not-is_address.false)
-
-pub returns : goal.returns
-returns c =
-    let a = c.args in
-    rw (sent_is_v2 _ a.address _ a.request a.q c.if-out-lt-ROOM.false (sym c.is_address.ensures ∙ c.if-not-is_address.false))
-    (rw c.formed_v2.ensures at c.send_v2.ensures)
+pub returns-in-Ok : goal.returns-in-Ok
+unfolding sent_v2 head_for
+returns-in-Ok c =
+    let f = sym c.formed_v2.ensures ∙ c.in-Ok.is in
+    let l = lent_is _ _ _ _ f in
+    let w = c.write_text.ensures in
+    let d = c.data_v2.ensures in
+    rw (written_is_v2 _ _ _ _ _, f, ← d)
+    (sent_v2_lem _ _ _ _ _ (omega (arith, l.0, w.text_len_bound)) (carried_v2 _ _ _ _ l.1 d (omega (arith, w.text_len_bound))) l.1 (rw c.head_for-head.ensures at w.sent))

@@ -4,14 +4,6 @@ use Rattle.buffer.proofs.Laws.{refuses}
 use Rattle.rewriter.specs.Again.{opg_again}
 use Rattle.rewriter.proofs.write_opg_again.Goals as goal
 
-pub returns-in-Silent : goal.returns-in-Silent
+pub returns-in-Err : goal.returns-in-Err
 unfolding opg_again
-returns-in-Silent c = rw c.in-Silent.is (refuses _ _ refl)
-
-pub returns-in-Error : goal.returns-in-Error
-unfolding opg_again
-returns-in-Error c = rw c.in-Error.is (refuses _ _ refl)
-
-pub returns-in-Accepted : goal.returns-in-Accepted
-unfolding opg_again
-returns-in-Accepted c = rw c.in-Accepted.is c.write_request.ensures
+returns-in-Err c = rw (c.in-Err.is, c.number.ensures) (refuses _ _ refl)

@@ -4,6 +4,7 @@ use mathlib.Core.Bool.{true, false, true≢false}
 use mathlib.Core.Option.{Option, none, some}
 use Prim.Native.Nat.{ℕ}
 use borrow.Author.Tests.{eq-eqb, eqb-true}
+use Rattle.std.specs.Prelude.{Some}
 use Rattle.buffer.specs.First.{pick}
 use Rattle.readings.specs.Bench.{bench_of}
 use Rattle.readings.specs.Place.{Place, code_of, place_of, reading_at}
@@ -12,7 +13,6 @@ use Rattle.readings.specs.There.{names}
 use Rattle.readings.specs.declared.Reading.{Reading}
 use Rattle.readings.specs.declared.Readings.{Readings}
 use Rattle.readings.specs.declared.Bench.{Bench}
-use Rattle.readings.specs.declared.Benched.TheVariants.{Accepted}
 use Rattle.readings_facts.proofs.Accepts.{bench_exactly}
 use Rattle.readings_facts.specs.Handed.{Handed}
 use Rattle.readings_facts.proofs.Places.{get_put, get_other, code_one}
@@ -34,7 +34,7 @@ code_same none (some b) e = cc
 code_same (some a) none e = cc
 code_same (some a) (some b) e = eq-eqb a b (cc)
 
-module _ (p : Place) (o : Origin) (r : Readings) (b : Bench) (x : Reading) (e : bench_of b ≡ Accepted x) where
+module _ (p : Place) (o : Origin) (r : Readings) (b : Bench) (x : Reading) (e : bench_of b ≡ Some x) where
   there : names b ≡ code_of (place_of x)
   there = ((bench_exactly b x).0 e).there
 

@@ -7,12 +7,12 @@ use Prim.Native.Nat.{ℕ, ◌+◌, ◌-◌, ◌*◌, ◌/◌, ◌^◌}
 use native.Mathlib.Omega.{arith}
 use lib.ListN.{length}
 use lib.Seq.{take_at, drop-append-add}
+use Rattle.std.specs.Prelude.{Ok}
 use Rattle.buffer.specs.First.{pick}
 use Rattle.buffer.specs.Byte.{every, same_text, numeral_from, numeral, digits3}
 use Rattle.decimal.specs.Exact.{units}
 use Rattle.decimal.specs.Form.{number_of}
 use Rattle.decimal.specs.declared.Number.{Number}
-use Rattle.decimal.specs.declared.Parsed.TheVariants as parsed
 use Rattle.sources.specs.Source.{source_text, known_sources, among, list_text}
 use Rattle.settings.specs.Limits.{ProfileLimits}
 use Rattle.settings.specs.Settings.{Held, key_of, factory, factory_of, put_of}
@@ -113,11 +113,11 @@ digit_said v = omega arith
 factor_said : (n : Number) (h : ℕ) → units n ≡ h * 10 ^ 12 → units n / 10 ^ 12 ≡ h
 factor_said n h e = omega arith
 
-direct_said : (t : List ℕ) (n : Number) → number_of t ≡ parsed.Value n → transition_in (68 ∷ t) ≡ some (Switch (Direct n), [])
+direct_said : (t : List ℕ) (n : Number) → number_of t ≡ Ok n → transition_in (68 ∷ t) ≡ some (Switch (Direct n), [])
 unfolding transition_in number_in pick
 direct_said t n e = rw e
 
-between_said : (t u : List ℕ) (a b : Number) → number_of t ≡ parsed.Value a → number_of u ≡ parsed.Value b
+between_said : (t u : List ℕ) (a b : Number) → number_of t ≡ Ok a → number_of u ≡ Ok b
     → transition_in (70 ∷ (t ++ 84 ∷ u)) ≡ some (Switch (Between a b), [])
 unfolding transition_in number_in pick
 between_said t u a b e f =

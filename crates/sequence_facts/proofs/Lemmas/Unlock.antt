@@ -7,34 +7,32 @@ use native.Mathlib.Omega.{arith}
 use borrow.Author.Tests.{eq-eqb, ne_eqb, eqb-true, eqb-false, ltb-true, not-true, not-false}
 use lib.Dec.{eqb, ltb}
 use lib.ListN.{length}
+use Rattle.std.specs.Prelude.{Err, Ok, Result}
 use Rattle.buffer.specs.First.{pick}
 use Rattle.buffer.specs.Byte.{is_digit, every, same_text, numeral}
 use Rattle.buffer.proofs.Laws.{within_true, within_in, same_lengths}
 use Rattle.buffer.proofs.Rules.{each}
 use Rattle.forms.specs.Forms.{digit_data}
-use Rattle.forms.specs.declared.Digit.{Digit}
-use Rattle.forms.specs.declared.Digit.TheVariants.{Is, Refused}
 use Rattle.requests.specs.AskV1.{six_digits, bare_of, digit_one, one_of, unit_at, ask_v1}
 use Rattle.requests.specs.declared.RequestV1.{RequestV1}
 use Rattle.requests.specs.declared.RequestV1.TheVariants.{Measure, ReadFactor, Unlock, SetFactor, ReadUnit}
-use Rattle.requests.specs.declared.AskV1.{AskV1}
-use Rattle.requests.specs.declared.AskV1.TheVariants.{Asks}
 use Rattle.gauge_rules_v1.specs.RulesV1.{unlocks}
 use Rattle.gauge_table.proofs.DecidedV2.{by}
 use Rattle.gauge_table.specs.After.{asks_unlock}
+use Rattle.refusals.specs.declared.Refusal.{Refusal}
 
 -- a request that is no unlock
-abbrev Other : AskV1 → Type 0
+abbrev Other : Result RequestV1 Refusal → Type 0
 Other a = asks_unlock a ≡ false
 
 bare_other : (d : List ℕ) (r : RequestV1) → unlocks r ≡ false → Other (bare_of d r)
 unfolding bare_of asks_unlock
 bare_other d r h = each Other _ _ _ (λ _. refl) (λ _. h)
 
-digit_other : (g : Digit) (r : RequestV1) → unlocks r ≡ false → Other (digit_one g r)
+digit_other : (g : Result ℕ Refusal) (r : RequestV1) → unlocks r ≡ false → Other (digit_one g r)
 unfolding digit_one asks_unlock
-digit_other (Is d) r h = each Other _ _ _ (λ _. refl) (λ _. h)
-digit_other (Refused k) r h = refl
+digit_other (Ok d) r h = each Other _ _ _ (λ _. refl) (λ _. h)
+digit_other (Err k) r h = refl
 
 unit_other : (n : ℕ) → Other (unit_at n)
 unfolding unit_at asks_unlock unlocks
@@ -44,7 +42,7 @@ unit_other n = each Other _ _ _ (λ _. refl) (λ _. each Other _ _ _ (λ _. refl
 no_one : (x : ℕ) → (x ≡ 49 → ⊥) → false ≡ eqb x 49
 no_one x h = sym (ne_eqb x 49 h)
 
-is_one : (x : ℕ) → is_digit x ≡ true → asks_unlock (digit_one (Is (x - 48)) Unlock) ≡ eqb x 49
+is_one : (x : ℕ) → is_digit x ≡ true → asks_unlock (digit_one (Ok (x - 48)) Unlock) ≡ eqb x 49
 unfolding digit_one asks_unlock unlocks pick
 is_one x d =
     let w = within_true 48 57 x d in
@@ -56,10 +54,10 @@ one_digit_lem : (d : List ℕ) → asks_unlock (one_of d Unlock) ≡ same_text d
 unfolding one_of digit_data same_text asks_unlock digit_one pick
 one_digit_lem [] = refl
 one_digit_lem (x ∷ []) =
-    each P (not (is_digit x)) (Refused 10) _ (λ e. no_one x (λ (z : x ≡ 49). no_digit e z))
-    (λ e. each P (ltb 9 (x - 48)) (Refused 11) (Is (x - 48)) (λ f. no_one x (λ (z : x ≡ 49). omega (arith, ltb-true 9 (x - 48) f))) (λ _. is_one x (not-false (is_digit x) e)))
+    each P (not (is_digit x)) (Err Refusal.Syntax) _ (λ e. no_one x (λ (z : x ≡ 49). no_digit e z))
+    (λ e. each P (ltb 9 (x - 48)) (Err Refusal.Range) (Ok (x - 48)) (λ f. no_one x (λ (z : x ≡ 49). omega (arith, ltb-true 9 (x - 48) f))) (λ _. is_one x (not-false (is_digit x) e)))
   where
-    P : Digit → Type 0
+    P : Result ℕ Refusal → Type 0
     P g = asks_unlock (digit_one g Unlock) ≡ eqb x 49
 
     no_digit : not (is_digit x) ≡ true → x ≡ 49 → ⊥
@@ -77,7 +75,7 @@ letter_c : (d : List ℕ) → asks_unlock (ask_v1 99 d) ≡ same_text d (49 ∷ 
 unfolding ask_v1 asks_unlock unlocks pick
 letter_c d = each' (six_digits d) refl
   where
-    each' : (b : Bool) → six_digits d ≡ b → asks_unlock (pick b (Asks (SetFactor (numeral d))) (one_of d Unlock)) ≡ same_text d (49 ∷ [])
+    each' : (b : Bool) → six_digits d ≡ b → asks_unlock (pick b (Ok (SetFactor (numeral d))) (one_of d Unlock)) ≡ same_text d (49 ∷ [])
     each' true e = six_other d e
     each' false e = one_digit_lem d
 

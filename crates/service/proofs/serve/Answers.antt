@@ -22,14 +22,8 @@ slice_bounds-until-start c = omega (arith, c.loop-out.invariant.0.at_in)
 pub slice_bounds-until-end : goal.slice_bounds-until-end
 slice_bounds-until-end c = omega (arith, c.loop-out.invariant.0.at_in)
 
-pub until-n-requires : goal.until-n-requires
-until-n-requires c = tt
-
 pub overflow_sub-input : goal.overflow_sub-input
 overflow_sub-input c = omega (arith, c.loop-out.invariant.0.at_in)
-
-pub stopped-requires : goal.stopped-requires
-stopped-requires c = tt
 
 pub returns-then-input-at : goal.returns-then-input-at
 returns-then-input-at c =
@@ -42,12 +36,6 @@ returns-then-input-at c =
       counted = rw c.stopped.ensures l.invariant.1;
     }
 
-pub decide-d-requires : goal.decide-d-requires
-decide-d-requires c = tt
-
-pub with-settings-requires : goal.with-settings-requires
-with-settings-requires c = tt
-
 -- one request more, and what it changes stored
 pub loop-out-preserved : goal.loop-out-preserved
 unfolding changed_by
@@ -56,11 +44,11 @@ loop-out-preserved c =
     let l = c.loop-out in
     let decide = c.decide-d in
     let d = decide.result in
-    let m = c.match-put in
-    let entered : (held m.settings ≡ changed_by (held l.settings) d.change.put (list_of d.change.sources)) × (Counted l.settings.sources → Counted m.settings.sources) =
+    let m = c.match-d in
+    let entered : (held m.settings ≡ changed_by (held l.settings) d.change.value (list_of d.change.sources)) × (Counted l.settings.sources → Counted m.settings.sources) =
     elim m.branch [
-      | goal.in-Nothing w ↦ (rw (w.in-Nothing.is, w.settings-is), λ n. rw w.settings-is n)
-      | goal.in-Value w ↦ (rw (w.in-Value.is, w.settings-is) w.with-settings.ensures.result_value, λ n. rw w.settings-is (w.with-settings.ensures.counted n decide.ensures.counted))
+      | goal.in_default w ↦ (rw (w.in_default.is, w.settings-is), λ n. rw w.settings-is n)
+      | goal.in-Some w ↦ (rw (w.in-Some.is, w.settings-is) w.with-settings.ensures.result_value, λ n. rw w.settings-is (w.with-settings.ensures.counted n decide.ensures.counted))
     ] in
     let before = gauge x.g.profile l.settings x.g.readings l.unlocked in (
       stored _ _ _ _ _ _ x.g.profile l.settings m.settings x.g.readings l.unlocked d entered.0
@@ -70,9 +58,6 @@ loop-out-preserved c =
 
 pub overflow_add-used : goal.overflow_add-used
 overflow_add-used c = omega (arith, (loop-out-preserved c).0.used_in, c.well_formed.1.1.0)
-
-pub stopped-requires-2 : goal.stopped-requires-2
-stopped-requires-2 c = tt
 
 pub returns : goal.returns
 returns c =

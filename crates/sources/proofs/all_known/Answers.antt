@@ -1,19 +1,29 @@
--- `sources::all_known` meets its contract.
-use mathlib.Core.Path.{sym, ap}
+-- `sources::all_known` meets its contract. The invariant: what is left is known exactly if the whole is.
+use mathlib.Core.Path.{◌≡◌, sym, ◌∙◌}
+use mathlib.Core.Bool.{true, false}
 use native.Mathlib.Omega.{arith}
-use lib.ListN.{length, length-take}
-use Rattle.buffer.proofs.Laws.{take_taken}
-use Rattle.sources.specs.Source.{list_of}
+use lib.ListN.{drop_of_length-le, get_or}
+use Rattle.buffer.specs.Byte.{every}
+use Rattle.buffer.proofs.Laws.{drop_step}
+use Rattle.sources.specs.Source.{sources_of, among}
 use Rattle.sources.proofs.all_known.Goals as goal
 
-pub slice_bounds-codes-end : goal.slice_bounds-codes-end
-unfolding list_of
-slice_bounds-codes-end c = rw c.size-n.ensures (simp length-take (omega arith))
+pub returns-then-not-offers : goal.returns-then-not-offers
+unfolding every
+returns-then-not-offers c =
+    let l = c.loop-c in
+    let s = c.as_slice-c-items.result.now in
+    let out : among (sources_of c.args.profile) (get_or s l.c-index 0) ≡ false = sym c.offers.ensures ∙ c.if-not-offers.true in
+    rw (drop_step s l.c-index (omega arith), out, c.as_slice-c-items.ensures) at l.invariant
 
-pub slice_bounds-all_codes-end : goal.slice_bounds-all_codes-end
-unfolding list_of
-slice_bounds-all_codes-end c = let q = c.args.q in rw c.size-n.ensures (ap length (sym (take_taken q.count q.codes)))
+pub loop-c-preserved : goal.loop-c-preserved
+unfolding every
+loop-c-preserved c =
+    let l = c.loop-c in
+    let s = c.as_slice-c-items.result.now in
+    let known : among (sources_of c.args.profile) (get_or s l.c-index 0) ≡ true = sym c.offers.ensures ∙ c.if-not-offers.false in
+    rw (drop_step s l.c-index (omega arith), known) at l.invariant
 
 pub returns : goal.returns
-unfolding list_of
-returns c = let q = c.args.q in rw (c.size-n.ensures, take_taken q.count q.codes) at c.all_codes.ensures
+unfolding every
+returns c = let s = c.as_slice-c-items.result.now in rw (drop_of_length-le s c.loop-c-test.false, c.as_slice-c-items.ensures) at c.loop-c.invariant

@@ -3,10 +3,10 @@ use mathlib.Core.Path.{sym, ◌∙◌}
 use Rattle.sources.specs.Source.{listable}
 use Rattle.sources.proofs.is_listable.Goals as goal
 
-pub returns-then-not-all_known : goal.returns-then-not-all_known
+pub returns-then-all_known : goal.returns-then-all_known
 unfolding listable
-returns-then-not-all_known c = rw (sym c.all_known.ensures ∙ c.if-not-all_known.true)
+returns-then-all_known c = rw (sym c.all_known.ensures ∙ c.if-all_known.true) c.stand_once.ensures
 
-pub returns : goal.returns
+pub returns-else-all_known : goal.returns-else-all_known
 unfolding listable
-returns c = rw (sym c.all_known.ensures ∙ c.if-not-all_known.false) c.stand_once.ensures
+returns-else-all_known c = rw (sym c.all_known.ensures ∙ c.if-all_known.false) c.if-all_known.false

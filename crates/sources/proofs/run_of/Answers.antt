@@ -1,45 +1,48 @@
--- `sources::run_of` meets its contract. The invariant: the entries read and those that are left are all.
-use mathlib.Core.Path.{◌≡◌, refl, sym, ap, ◌∙◌}
-use mathlib.Core.List.{List}
-use Prim.Native.Nat.{ℕ, ◌+◌, ◌<◌, ◌≤◌}
-use native.Mathlib.Omega.{arith}
-use lib.ListN.{length, take, drop, drop_of_length-le, length-take, length-drop}
-use Rattle.sources.specs.Source.{list_of, Counted, source_of, sources_of}
-use Rattle.buffer.specs.Byte.{until_of}
-use Rattle.buffer.proofs.Laws.{until_le}
-use Rattle.sources.specs.Inner.{offered_as}
-use Rattle.sources.proofs.Profiles.{offered_is}
-use Rattle.sources.proofs.Reading.{entries_step, next, ended}
+-- `sources::run_of` meets its contract. The invariant: what was read of the entries so far.
+use Rattle.std.proofs.Common.{refl, sym, ◌∙◌, ap, length, eqb, arith, rules, Err}
+use Rattle.std.proofs.lemmas.Iterator.Splits.{YieldsList-from_slice_split}
+use Rattle.std.proofs.lemmas.Iterator.Consumers.{YieldsList-at, YieldsList-turn, YieldsList-end}
+use Rattle.std.proofs.lemmas.List.{length_push, take_all}
+use Rattle.std.proofs.lemmas.Result.{MatchResult-weaker}
+use Rattle.buffer.specs.Byte.{every}
+use Rattle.sources.specs.Source.{source_of, sources_of, list_of, Counted}
+use Rattle.sources.specs.Entries.{parts}
+use Rattle.sources.proofs.Laws.{parts_split}
+use Rattle.sources.proofs.Reading.{ended, known_step, unknown_step, malformed_in, ok_from_is_ok_and}
 use Rattle.sources.proofs.run_of.Goals as goal
 
--- the front of what follows a `D` ends within the text
-reach : (s : List ℕ) (i : ℕ) → i < length s → until_of 68 (drop (i + 1) s) + (i + 1) ≤ length s
-reach s i h = omega (arith, until_le 68 (drop (i + 1) s), length-drop (i + 1) s)
+pub loop-t-init : goal.loop-t-init
+unfolding every list_of Counted
+loop-t-init c = record { formed = refl; known = refl; list = refl; counted = refl }
 
-pub loop-i-init : goal.loop-i-init
-unfolding list_of Counted
-loop-i-init c = (omega arith, record { formed = refl; known = refl; sources = refl; few = refl; counted = refl })
+pub loop-t-preserved-in-Ok : goal.loop-t-preserved-in-Ok
+loop-t-preserved-in-Ok c =
+    let e = rw parts_split at (YieldsList-turn
+    (YieldsList-at c.into_iter-t-iterator.ensures.into_iter_gives
+    (YieldsList-from_slice_split _ (λ b. eqb b 68) c.args.s.now c.split-t-items.ensures.rest c.split-t-items.ensures.done c.split-t-items.ensures.closure (λ x b q h. (refl, search rules))))
+    c.loop-t.yielded _ c.loop-t.yielded_by _ _ c.in-Some.t c.in-Some.is c.next.ensures.steps) in
+    known_step (source_of (sources_of c.args.profile)) (parts c.args.s.now) _ _ e _ c.loop-t.read _ c.in-Ok.c (length_push _ _) (sym c.in-Ok.ensures) c.loop-t.invariant (MatchResult-weaker c.loop-t.read c.map-read.ensures.cases (λ q h. let w = ok_from_is_ok_and _ h in (w.0, w.1, search rules)) (λ k h. h))
 
-pub slice_bounds-source_of-end : goal.slice_bounds-source_of-end
-slice_bounds-source_of-end c = simp length-take (omega (arith, c.until-n.ensures, until_le 68 c.rest-t.result.now))
+pub loop-t-preserved : goal.loop-t-preserved
+loop-t-preserved c =
+    let e = rw parts_split at (YieldsList-turn
+    (YieldsList-at c.into_iter-t-iterator.ensures.into_iter_gives
+    (YieldsList-from_slice_split _ (λ b. eqb b 68) c.args.s.now c.split-t-items.ensures.rest c.split-t-items.ensures.done c.split-t-items.ensures.closure (λ x b q h. (refl, search rules))))
+    c.loop-t.yielded _ c.loop-t.yielded_by _ _ c.in-Some.t c.in-Some.is c.next.ensures.steps) in
+    unknown_step (source_of (sources_of c.args.profile)) (parts c.args.s.now) _ _ e _ c.loop-t.read (length_push _ _) (sym c.source_here.ensures ∙ c.in-Err-Unknown.is ∙ ap Err c.in-Err-Unknown.field-0-is) c.loop-t.invariant
 
-pub overflow_add-i-in-loop-i-2 : goal.overflow_add-i-in-loop-i-2
-overflow_add-i-in-loop-i-2 c = omega (arith, c.until-n.ensures ∙ ap (until_of 68) c.rest-t.ensures, reach c.args.s.now c.loop-i.i (omega arith))
-
-pub loop-i-smaller : goal.loop-i-smaller
-loop-i-smaller c = omega (arith, c.until-n.ensures ∙ ap (until_of 68) c.rest-t.ensures, reach c.args.s.now c.loop-i.i (omega arith))
-
-pub loop-i-preserved : goal.loop-i-preserved
-loop-i-preserved c =
-    let p = c.args.profile in
-    let s = c.args.s.now in
-    let l = c.loop-i in
-    let u = c.rest-t.ensures in
-    let n : c.until-n.result ≡ until_of 68 (drop (l.i + 1) s) = c.until-n.ensures ∙ ap (until_of 68) u in
-    let h = reach s l.i (omega arith) in
-    let o : c.offered.result ≡ source_of (sources_of p) _ = c.offered.ensures ∙ ap (offered_as (sources_of p)) c.source_of.ensures ∙ sym (offered_is p _) in
-    let e : c.offered.result ≡ source_of (sources_of p) (take (until_of 68 (drop (l.i + 1) s)) (drop (l.i + 1) s)) = rw (← n, ← u) o in
-    (omega (arith, n, h), next c.offered.result l.invariant.1 c.taken-run.ensures (rw (e, n) (entries_step (sources_of p) s l.i (omega arith))))
+pub returns-in-Err-Malformed : goal.returns-in-Err-Malformed
+returns-in-Err-Malformed c =
+    let e = rw parts_split at (YieldsList-turn
+    (YieldsList-at c.into_iter-t-iterator.ensures.into_iter_gives
+    (YieldsList-from_slice_split _ (λ b. eqb b 68) c.args.s.now c.split-t-items.ensures.rest c.split-t-items.ensures.done c.split-t-items.ensures.closure (λ x b q h. (refl, search rules))))
+    c.loop-t.yielded _ c.loop-t.yielded_by _ _ c.in-Some.t c.in-Some.is c.next.ensures.steps) in
+    malformed_in (source_of (sources_of c.args.profile)) (parts c.args.s.now) _ _ e (sym c.source_here.ensures ∙ c.in-Err-Malformed.is ∙ ap Err c.in-Err-Malformed.field-0-is)
 
 pub returns : goal.returns
-returns c = ended (rw (drop_of_length-le c.args.s.now c.loop-i-test.false) at c.loop-i.invariant.1)
+returns c =
+    let e = rw parts_split at (YieldsList-end
+    (YieldsList-at c.into_iter-t-iterator.ensures.into_iter_gives
+    (YieldsList-from_slice_split _ (λ b. eqb b 68) c.args.s.now c.split-t-items.ensures.rest c.split-t-items.ensures.done c.split-t-items.ensures.closure (λ x b q h. (refl, search rules))))
+    c.loop-t.yielded _ c.loop-t.yielded_by _ _ c.in-None.is c.next.ensures.steps) in
+    ended _ c.loop-t.read (rw (e.1, take_all (length (parts c.args.s.now)) (parts c.args.s.now) (omega arith)) at c.loop-t.invariant)

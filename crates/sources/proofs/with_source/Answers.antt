@@ -1,17 +1,18 @@
 -- `sources::with_source` meets its contract.
-use borrow.Author.Tests.{eq-eqb, ne_eqb}
+use native.Mathlib.Omega.{arith}
+use borrow.Author.Tests.{ne_eqb}
 use Rattle.buffer.specs.First.{pick}
 use Rattle.sources.specs.Source.{source_text}
 use Rattle.sources.proofs.with_source.Goals as goal
 
-pub returns-then-code-eq8 : goal.returns-then-code-eq8
+pub returns-in-8 : goal.returns-in-8
 unfolding source_text pick
-returns-then-code-eq8 c = rw (eq-eqb _ 8 c.if-code-eq8.true, c.add.ensures)
+returns-in-8 c = rw (c.in-8.is, c.add.ensures)
 
-pub returns-then-code-eq9 : goal.returns-then-code-eq9
+pub returns-in-9 : goal.returns-in-9
 unfolding source_text pick
-returns-then-code-eq9 c = rw (ne_eqb _ 8 c.if-code-eq8.false, eq-eqb _ 9 c.if-code-eq9.true, c.add-then-code-eq9.ensures)
+returns-in-9 c = rw (c.in-9.is, c.add-in-9.ensures)
 
-pub returns : goal.returns
+pub returns-in_default : goal.returns-in_default
 unfolding source_text pick
-returns c = rw (ne_eqb _ 8 c.if-code-eq8.false, ne_eqb _ 9 c.if-code-eq9.false, c.add-2.ensures)
+returns-in_default c = rw (ne_eqb c.args.code 8 (omega arith), ne_eqb c.args.code 9 (omega arith), c.add-in_default.ensures)

@@ -4,6 +4,7 @@ use mathlib.Core.Bool.{Bool, true, false}
 use mathlib.Core.List.{List, [], ◌∷◌}
 use Prim.Native.Nat.{ℕ, ◌+◌, ◌*◌, ◌/◌, ◌%◌, ◌<◌, ◌≤◌}
 use native.Mathlib.Omega.{arith}
+use Rattle.std.specs.Prelude.{Ok, Some}
 use Rattle.buffer.specs.First.{pick}
 use Rattle.buffer.specs.Byte.{at, within, every, is_digit, same_text, numeral_from, numeral, digit, leading, starts_with}
 use Rattle.buffer.proofs.Laws.{within_in}
@@ -19,7 +20,6 @@ use Rattle.settings.specs.declared.Setting.{Setting}
 use Rattle.settings.specs.declared.Setting.TheVariants.{Address, PressureIn, Factor, Control, Cathode, Filament, Switch, Stream}
 use Rattle.forms.specs.Forms.{digit_data, idle_list, known_mode, stream_of, stream_data}
 use Rattle.forms.specs.Judged.{verdict_of, if_set, list_in}
-use Rattle.forms.specs.declared.Verdict.TheVariants as verdict
 use Rattle.forms_facts.specs.Sound.{Sound, SoundSettings, Proper}
 use Rattle.forms_facts.specs.Codes.{GoodList}
 use Rattle.forms_facts.proofs.Lemmas.Lists.{none_good}
@@ -30,12 +30,9 @@ use Rattle.requests.specs.AskV2.{set_of, write_of, ask_known, ask_named, ask_v2,
 use Rattle.requests.specs.AskV1.{six_digits, bare_of, digit_one, one_of, unit_at, ask_v1}
 use Rattle.requests.specs.declared.Command.{Command}
 use Rattle.requests.specs.declared.Command.TheVariants.{MV, T2, FN, FS, Of}
-use Rattle.requests.specs.declared.Named.TheVariants.{Known}
 use Rattle.requests.specs.declared.RequestV2.TheVariants.{Read, Restore, Set}
-use Rattle.requests.specs.declared.AskV2.{AskV2}
 use Rattle.requests.specs.declared.RequestV1.{RequestV1}
 use Rattle.requests.specs.declared.RequestV1.TheVariants.{Measure, ReadFactor, Unlock, SetFactor, ReadUnit, SetUnit}
-use Rattle.requests.specs.declared.AskV1.{AskV1}
 use Rattle.request_texts.specs.RequestText.{access_of, command_in, head_for, data_v2, digits6, letter_v1, data_v1}
 use Rattle.settings.specs.Units.{unit_code}
 use Rattle.sources.specs.Source.{among, all_differ}
@@ -44,7 +41,7 @@ use Rattle.written_facts.proofs.Lemmas.Typed.{ListFits}
 -- ---- V2
 
 -- a command's two characters name it
-pub named : (c : Command) → command_of (at (command_text c) 0) (at (command_text c) 1) ≡ Known c
+pub named : (c : Command) → command_of (at (command_text c) 0) (at (command_text c) 1) ≡ Some c
 unfolding command_of find_command same_text command_text pick
 named MV = refl
 named T2 = refl
@@ -59,11 +56,11 @@ named (Of FC) = refl
 named (Of ST) = refl
 named (Of SM) = refl
 
-pub read_asked : (limits : ProfileLimits) (a : ℕ) (c : Command) (list : List ℕ) → ask_v2 limits (head_for a (Read c)) (data_v2 (Read c) list) ≡ AskV2.Asks (Read c)
+pub read_asked : (limits : ProfileLimits) (a : ℕ) (c : Command) (list : List ℕ) → ask_v2 limits (head_for a (Read c)) (data_v2 (Read c) list) ≡ Ok (Read c)
 unfolding ask_v2 head_for access_of command_in data_v2 is_access pick ask_named ask_known lacks_access
 read_asked limits a c list = rw (named c)
 
-pub restore_asked : (limits : ProfileLimits) (a : ℕ) (c : Command) (list : List ℕ) → lacks_access restore_code c ≡ false → ask_v2 limits (head_for a (Restore c)) (data_v2 (Restore c) list) ≡ AskV2.Asks (Restore c)
+pub restore_asked : (limits : ProfileLimits) (a : ℕ) (c : Command) (list : List ℕ) → lacks_access restore_code c ≡ false → ask_v2 limits (head_for a (Restore c)) (data_v2 (Restore c) list) ≡ Ok (Restore c)
 unfolding ask_v2 head_for access_of command_in data_v2 is_access pick ask_named ask_known
 restore_asked limits a c list h = rw (named c, h)
 
@@ -84,7 +81,7 @@ module _ (limits : ProfileLimits) (ok : Proper limits) where
   put_here y list h k = put_sound limits (factory limits) y list (factory_sound limits ok) h k
 
   -- the text of a setting within the limits is judged as that setting
-  judged_here : (y : Setting) (list : List ℕ) → Sound limits y → ListFits limits y list → verdict_of limits (key_of y) (read_text (key_of y) (put_of (factory limits) y list)) ≡ verdict.Set y
+  judged_here : (y : Setting) (list : List ℕ) → Sound limits y → ListFits limits y list → verdict_of limits (key_of y) (read_text (key_of y) (put_of (factory limits) y list)) ≡ Ok y
   unfolding put_of
   judged_here (Address v) list h k = read_again limits ok DA _ (put_here (Address v) [] h (none_good limits.source_codes))
   judged_here (PressureIn v) list h k = read_again limits ok DU _ (put_here (PressureIn v) [] h (none_good limits.source_codes))
@@ -95,10 +92,10 @@ module _ (limits : ProfileLimits) (ok : Proper limits) where
   judged_here (Switch v) list h k = read_again limits ok ST _ (put_here (Switch v) [] h (none_good limits.source_codes))
   judged_here (Stream v) list h k = read_again limits ok SM _ (put_here (Stream v) list h k.0)
 
-  judged_again : (y : Setting) (list : List ℕ) → Sound limits y → ListFits limits y list → verdict_of limits (key_of y) (read_text (key_of y) (put_of (factory (limits_of Standard)) y list)) ≡ verdict.Set y
+  judged_again : (y : Setting) (list : List ℕ) → Sound limits y → ListFits limits y list → verdict_of limits (key_of y) (read_text (key_of y) (put_of (factory (limits_of Standard)) y list)) ≡ Ok y
   judged_again y list h k = ap (verdict_of limits (key_of y)) (put_alike (factory (limits_of Standard)) (factory limits) y list) ∙ judged_here y list h k
 
-  pub set_asked : (a : ℕ) (y : Setting) (list : List ℕ) → Sound limits y → ListFits limits y list → ask_v2 limits (head_for a (Set y)) (data_v2 (Set y) list) ≡ AskV2.Asks (Set y)
+  pub set_asked : (a : ℕ) (y : Setting) (list : List ℕ) → Sound limits y → ListFits limits y list → ask_v2 limits (head_for a (Set y)) (data_v2 (Set y) list) ≡ Ok (Set y)
   unfolding ask_v2 head_for access_of command_in data_v2 is_access pick ask_named ask_known lacks_access can_write write_of set_of
   set_asked a y list h k = rw (named (Of (key_of y)), judged_again y list h k)
 
@@ -147,7 +144,7 @@ six_spells n h =
         → numeral ((f + 48) ∷ (g + 48) ∷ (h + 48) ∷ (i + 48) ∷ (j + 48) ∷ (k + 48) ∷ []) ≡ (f * 100 + g * 10 + h) * 1000 + (i * 100 + j * 10 + k)
     joined f g h i j k = omega arith
 
-unit_again : (u : PressureUnit) → unit_at (unit_code u) ≡ AskV1.Asks (SetUnit u)
+unit_again : (u : PressureUnit) → unit_at (unit_code u) ≡ Ok (SetUnit u)
 unfolding unit_at unit_code pick
 unit_again Mbar = refl
 unit_again Torr = refl
@@ -168,15 +165,15 @@ Written (SetFactor n) = (standard.factor_low ≤ n) × (n ≤ standard.factor_hi
 Written ReadUnit = Unit {0}
 Written (SetUnit u) = Unit {0}
 
-factor_asked : (n : ℕ) → n < 1000000 → ask_v1 99 (digits6 n) ≡ AskV1.Asks (SetFactor n)
+factor_asked : (n : ℕ) → n < 1000000 → ask_v1 99 (digits6 n) ≡ Ok (SetFactor n)
 unfolding ask_v1 pick
 factor_asked n h = rw (six_in n, six_spells n h)
 
-unit_asked : (u : PressureUnit) → ask_v1 117 (digits6 (unit_code u)) ≡ AskV1.Asks (SetUnit u)
+unit_asked : (u : PressureUnit) → ask_v1 117 (digits6 (unit_code u)) ≡ Ok (SetUnit u)
 unfolding ask_v1 pick
 unit_asked u = rw (six_in (unit_code u), six_spells (unit_code u) (unit_low_lem u)) (unit_again u)
 
-pub asked_v1_lem : (r : RequestV1) → Written r → ask_v1 (letter_v1 r) (data_v1 r) ≡ AskV1.Asks r
+pub asked_v1_lem : (r : RequestV1) → Written r → ask_v1 (letter_v1 r) (data_v1 r) ≡ Ok r
 unfolding ask_v1 letter_v1 data_v1 pick bare_of one_of digit_one digit_data six_digits every within
 asked_v1_lem Measure h = refl
 asked_v1_lem ReadFactor h = refl

@@ -9,14 +9,12 @@ use native.Mathlib.Omega.{arith}
 use borrow.Author.Tests.{eq-eqb, eqb-true, eqb-false, ltb-false, not-false}
 use lib.Dec.{eqb, ltb, leb}
 use lib.ListN.{length}
+use Rattle.std.specs.Prelude.{Err, Ok, Result, Some}
 use Rattle.buffer.proofs.Laws.{within_true}
 use Rattle.buffer.proofs.Rules.{each}
 use Rattle.decimal.specs.Exact.{units, normal_of}
 use Rattle.decimal.specs.Number.{plus, minus, below_of, same_value}
 use Rattle.decimal.specs.declared.Number.{Number}
-use Rattle.decimal.specs.declared.Parsed.{Parsed}
-use Rattle.decimal.specs.declared.Parsed.TheVariants.{Value, Syntax, Range}
-use Rattle.decimal.specs.declared.Hundredths.TheVariants.{Whole}
 use Rattle.decimal_facts.specs.Canonical.{Exactly}
 use Rattle.decimal_facts.proofs.Value.{exact}
 use Rattle.sources.specs.Source.{all_differ, list_of}
@@ -26,20 +24,17 @@ use Rattle.settings.specs.declared.Transition.{Transition}
 use Rattle.settings.specs.declared.Transition.TheVariants.{Direct, Between}
 use Rattle.settings.specs.declared.Setting.{Setting}
 use Rattle.settings.specs.declared.Setting.TheVariants.{Address, PressureIn, Factor, Control, Cathode, Filament, Switch, Stream}
-use Rattle.forms.specs.Forms.{factor_in, limited_of, direct_of, between_of, transition_of}
-use Rattle.forms.specs.declared.Digit.{Digit}
-use Rattle.forms.specs.declared.Digit.TheVariants.{Is}
-use Rattle.forms.specs.declared.Limited.{Limited}
-use Rattle.forms.specs.declared.Limited.TheVariants.{Fine}
+use Rattle.forms.specs.Forms.{factor_in, limited_of, direct_of, earlier, between_of, transition_of}
 use Rattle.forms.specs.declared.Ends.{Ends}
 use Rattle.forms.specs.declared.Ends.TheVariants.{None, Two}
-use Rattle.forms.specs.declared.Verdict.{Verdict}
-use Rattle.forms.specs.declared.Verdict.TheVariants.{Set}
 use Rattle.forms_facts.specs.Codes.{GoodList}
 use Rattle.forms_facts.specs.Sound.{InLimits, Sound}
 use Rattle.forms_facts.proofs.Lemmas.Lists.{once_good}
 use Rattle.request_writer.specs.Typed.{exactly, limited_number, ends_in, typed_digit, judged_digit, typed_address, typed_stream, typed_verdict}
 use Rattle.written_facts.specs.Same.{SameNumber, SameSetting}
+use Rattle.decimal.specs.declared.NumberError.{NumberError}
+use Rattle.refusals.specs.Number.{refusal_number}
+use Rattle.refusals.specs.declared.Refusal.{Refusal}
 
 -- the list beside SM's mode: a good one, and none with mode 0
 abbrev pub ListFits : ProfileLimits → Setting → List ℕ → Type 0
@@ -53,9 +48,9 @@ ListFits limits (Filament v) list = Unit {0}
 ListFits limits (Switch v) list = Unit {0}
 
 -- what is told of a setting that is accepted for x, and of a refusal's number
-abbrev pub Told : ProfileLimits → Setting → List ℕ → Verdict → Type 0
-Told limits x list (Set y) = Sound limits y × SameSetting x y × ListFits limits y list
-Told limits x list (Verdict.Refused k) = 10 ≤ k
+abbrev pub Told : ProfileLimits → Setting → List ℕ → Result Setting Refusal → Type 0
+Told limits x list (Ok y) = Sound limits y × SameSetting x y × ListFits limits y list
+Told limits x list (Err k) = 10 ≤ refusal_number k
 
 -- ---- numbers
 
@@ -93,21 +88,21 @@ same_number n m h = signed n.negative m.negative (units n) (units m) (sym (sizes
     go false e = inr (h.sign (omega (arith, eqb-false n.mantissa 0 e)))
 
 -- a number of ST that passes: within the limits, and of the value that was asked for
-abbrev Passed : ProfileLimits → Number → Limited → Type 0
-Passed limits n (Fine m) = InLimits limits m × SameNumber n m
-Passed limits n (Limited.Refused k) = 10 ≤ k
+abbrev Passed : ProfileLimits → Number → Result Number Refusal → Type 0
+Passed limits n (Ok m) = InLimits limits m × SameNumber n m
+Passed limits n (Err k) = 10 ≤ refusal_number k
 
 passed : (limits : ProfileLimits) (n : Number) → Passed limits n (limited_number limits n)
 unfolding limited_number limited_of
 passed limits n = go (normal_of (exactly n)) refl
   where
-    go : (p : Parsed) → normal_of (exactly n) ≡ p → Passed limits n (limited_of limits p)
-    go Syntax e = omega arith
-    go Range e = omega arith
-    go (Value m) e =
+    go : (p : Result Number NumberError) → normal_of (exactly n) ≡ p → Passed limits n (limited_of limits p)
+    go (Err NumberError.Syntax) e = omega arith
+    go (Err NumberError.Range) e = omega arith
+    go (Ok m) e =
         let x = (exact (exactly n) m).0 e in
-        each (Passed limits n) (below_of m limits.transition_low) (Limited.Refused 11) _ (λ _. omega arith)
-        (λ l. each (Passed limits n) (below_of limits.transition_high m) (Limited.Refused 11) (Fine m) (λ _. omega arith)
+        each (Passed limits n) (below_of m limits.transition_low) (Err Refusal.Range) _ (λ _. omega arith)
+        (λ l. each (Passed limits n) (below_of limits.transition_high m) (Err Refusal.Range) (Ok m) (λ _. omega arith)
         (λ u. (record { canonical = x.canonical; low = l; high = u }, same_number n m x)))
 
 -- ---- settings
@@ -115,24 +110,24 @@ passed limits n = go (normal_of (exactly n)) refl
 module _ (limits : ProfileLimits) (list : List ℕ) where
   address_told : (a : ℕ) → Told limits (Address a) list (typed_address a)
   unfolding typed_address
-  address_told a = each (Told limits (Address a) list) _ (Verdict.Refused 11) (Set (Address a)) (λ _. omega arith) (λ e. (within_true _ _ a (not-false _ e), refl, tt))
+  address_told a = each (Told limits (Address a) list) _ (Err Refusal.Range) (Ok (Address a)) (λ _. omega arith) (λ e. (within_true _ _ a (not-false _ e), refl, tt))
 
-  factor_told : (h : ℕ) → Told limits (Factor h) list (factor_in (Whole h))
+  factor_told : (h : ℕ) → Told limits (Factor h) list (factor_in (Some h))
   unfolding factor_in
-  factor_told h = each (Told limits (Factor h) list) _ (Verdict.Refused 11) (Set (Factor h)) (λ _. omega arith) (λ e. (within_true _ _ h (not-false _ e), refl, tt))
+  factor_told h = each (Told limits (Factor h) list) _ (Err Refusal.Range) (Ok (Factor h)) (λ _. omega arith) (λ e. (within_true _ _ h (not-false _ e), refl, tt))
 
-  direct_told : (n : Number) (r : Limited) → Passed limits n r → Told limits (Switch (Direct n)) list (direct_of r)
+  direct_told : (n : Number) (r : Result Number Refusal) → Passed limits n r → Told limits (Switch (Direct n)) list (direct_of r)
   unfolding direct_of
-  direct_told n (Fine m) h = (h.0, h.1, tt)
-  direct_told n (Limited.Refused k) h = h
+  direct_told n (Ok m) h = (h.0, h.1, tt)
+  direct_told n (Err k) h = h
 
-  between_told : (a b : Number) (r s : Limited) → limits.between_form ≡ true → Passed limits a r → Passed limits b s → Told limits (Switch (Between a b)) list (between_of r s)
-  unfolding between_of
-  between_told a b (Fine c) (Fine d) f h k =
-      each (Told limits (Switch (Between a b)) list) (not (below_of c d)) (Verdict.Refused 12) (Set (Switch (Between c d))) (λ _. omega arith) (λ e. ((f, h.0, k.0, not-false _ e), (h.1, k.1), tt))
-  between_told a b (Fine c) (Limited.Refused k) f h l = l
-  between_told a b (Limited.Refused j) (Fine d) f h l = h
-  between_told a b (Limited.Refused j) (Limited.Refused k) f h l = omega arith
+  between_told : (a b : Number) (r s : Result Number Refusal) → limits.between_form ≡ true → Passed limits a r → Passed limits b s → Told limits (Switch (Between a b)) list (between_of r s)
+  unfolding between_of earlier
+  between_told a b (Ok c) (Ok d) f h k =
+      each (Told limits (Switch (Between a b)) list) (not (below_of c d)) (Err Refusal.Logic) (Ok (Switch (Between c d))) (λ _. omega arith) (λ e. ((f, h.0, k.0, not-false _ e), (h.1, k.1), tt))
+  between_told a b (Ok c) (Err k) f h l = l
+  between_told a b (Err j) (Ok d) f h l = h
+  between_told a b (Err j) (Err k) f h l = each (λ (k : Refusal). 10 ≤ refusal_number k) _ j k (λ _. h) (λ _. l)
 
   transition_told : (t : Transition) → Told limits (Switch t) list (transition_of (ends_in limits t))
   unfolding transition_of ends_in
@@ -142,12 +137,12 @@ module _ (limits : ProfileLimits) (list : List ℕ) where
       (λ f. between_told a b (limited_number limits a) (limited_number limits b) f (passed limits a) (passed limits b)) (λ _. omega arith)
 
   -- one digit, over the largest
-  digit_told : (x : Setting) (most d : ℕ) → (d ≤ most → Told limits x list (Set x)) → Told limits x list (judged_digit x (typed_digit most d))
+  digit_told : (x : Setting) (most d : ℕ) → (d ≤ most → Told limits x list (Ok x)) → Told limits x list (judged_digit x (typed_digit most d))
   unfolding judged_digit typed_digit
   digit_told x most d f =
-      each P (leb 10 d) (Digit.Refused 10) _ (λ _. omega arith) (λ _. each P (ltb most d) (Digit.Refused 11) (Is d) (λ _. omega arith) (λ e. f (ltb-false most d e)))
+      each P (leb 10 d) (Err Refusal.Syntax) _ (λ _. omega arith) (λ _. each P (ltb most d) (Err Refusal.Range) (Ok d) (λ _. omega arith) (λ e. f (ltb-false most d e)))
     where
-      P : Digit → Type 0
+      P : Result ℕ Refusal → Type 0
       P r = Told limits x list (judged_digit x r)
 
 nothing : (list : List ℕ) → length list ≡ 0 → list ≡ []
@@ -157,9 +152,9 @@ nothing (c ∷ list) e = absurd (omega arith)
 stream_told : (limits : ProfileLimits) (on : Bool) (list : List ℕ) → Told limits (Stream on) list (typed_stream limits on list)
 unfolding typed_stream
 stream_told limits on list =
-    each (Told limits (Stream on) list) _ (Verdict.Refused 10) _ (λ _. omega arith)
-    (λ e. each (Told limits (Stream on) list) _ (Verdict.Refused 11) _ (λ _. omega arith)
-    (λ k. each (Told limits (Stream on) list) (not (all_differ (0 ∷ list))) (Verdict.Refused 12) (Set (Stream on)) (λ _. omega arith)
+    each (Told limits (Stream on) list) _ (Err Refusal.Syntax) _ (λ _. omega arith)
+    (λ e. each (Told limits (Stream on) list) _ (Err Refusal.Range) _ (λ _. omega arith)
+    (λ k. each (Told limits (Stream on) list) (not (all_differ (0 ∷ list))) (Err Refusal.Logic) (Ok (Stream on)) (λ _. omega arith)
     (λ l. (tt, refl, (once_good limits.source_codes list (not-false _ k) (not-false _ l), none on e)))))
   where
     none : (b : Bool) → (not b && not (eqb (length list) 0)) ≡ false → b ≡ false → list ≡ []

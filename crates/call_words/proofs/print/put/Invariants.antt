@@ -1,7 +1,0 @@
--- `call_words::print::put` is safe and ends: each turn takes a byte.
-use Prim.Native.Nat.{◌-◌}
-use lib.ListN.{length}
-use Rattle.call_words.proofs.print.put.Given as goal
-
-abbrev pub decreases-loop-i : goal.decreases-loop-i
-decreases-loop-i l = length l.src - l.i

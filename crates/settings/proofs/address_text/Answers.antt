@@ -1,7 +1,0 @@
--- `settings::address_text` meets its contract.
-use Rattle.buffer.specs.Text.{text_of, cut}
-use Rattle.settings.proofs.address_text.Goals as goal
-
-pub returns : goal.returns
-unfolding text_of cut
-returns c = c.add.ensures

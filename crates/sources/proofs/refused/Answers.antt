@@ -1,8 +1,0 @@
--- `sources::refused` meets its contract.
-use mathlib.Core.Path.{refl}
-use Rattle.sources.specs.Source.{list_of, Counted}
-use Rattle.sources.proofs.refused.Goals as goal
-
-pub returns : goal.returns
-unfolding list_of Counted
-returns c = (refl, refl, refl)

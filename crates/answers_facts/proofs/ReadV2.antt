@@ -256,7 +256,7 @@ unfolding ends_of transition_reply transition_of
 ends_number limits s =
     let t = drop 1 s in
     let k = until_of 84 t in
-    let P : Ends → Type 0 = λ (e : Ends). Numbered (transition_reply e) (written (verdict_number (transition_of e))) in
+    let P : Ends Refusal → Type 0 = λ (e : Ends Refusal). Numbered (transition_reply e) (written (verdict_number (transition_of e))) in
     each P _ (Ends.One (limited_of limits (number_of t))) _ (λ _. direct_number _ (limited_low limits (number_of t)))
     (λ _. each P _ Ends.None _ (λ _. refused_low Refusal.Syntax syntax)
     (λ _. each P _ Ends.None _ (λ _. refused_low Refusal.Syntax syntax)

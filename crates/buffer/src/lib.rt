@@ -146,7 +146,7 @@ pub fn numeral_of(s: &[u8]) -> u32
 }
 
 // Whether two texts are the same.
-#[tactic(auto, using(crate::proofs::Laws::same_pointwise))]
+#[tactic(auto, using(crate::proofs::Laws::same_pointwise, crate::proofs::Laws::same_lengths))]
 pub fn is_same(s: &[u8], t: &[u8]) -> bool
     ensures { result ≡ same_text s.now t.now }
 {

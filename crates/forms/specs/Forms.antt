@@ -88,7 +88,7 @@ between_of (Err j) (Ok high) = Err j
 between_of (Err j) (Err k) = Err (earlier j k)
 
 -- ST: "`D` number, or `F` number `T` number", each judged by itself; VSH and VSM "accept only the `D` form"
-unfoldable pub ends_of : ProfileLimits → List ℕ → Ends
+unfoldable pub ends_of : ProfileLimits → List ℕ → Ends Refusal
 ends_of limits s =
     let t = drop 1 s in
     let k = until_of 84 t in
@@ -99,7 +99,7 @@ ends_of limits s =
     ∷ [])
     (Two (limited_of limits (number_of (take k t))) (limited_of limits (number_of (drop (k + 1) t))))
 
-unfoldable pub transition_of : Ends → Result Setting Refusal
+unfoldable pub transition_of : Ends Refusal → Result Setting Refusal
 transition_of Ends.None = Err Refusal.Syntax
 transition_of (One n) = direct_of n
 transition_of (Two low high) = between_of low high

@@ -1,13 +1,15 @@
 #![tactic(auto)]
 // The data of the settings (document 01, "Settings and readings, V2", the column "Data"), judged for slices of any length and
 // apart from frames.
-ghost use Rattle.std.specs.Prelude.{◌≡◌, eqb};
+ghost use Rattle.std.specs.Prelude.{◌≡◌, eqb, min};
 ghost use Rattle.buffer.specs.Byte.{within};
 ghost use Rattle.decimal.specs.Form.{number_of};
 ghost use Rattle.settings.specs.Limits.{standard, limits_of};
 ghost use Rattle.settings.specs.declared.Key.{Key};
-ghost use Rattle.refusals.specs.Number.{number_in};
-ghost use Rattle.forms.specs.Forms.{address_data, unit_data, factor_in, factor_of, digit_data, limited_of, earlier, between_of, ends_of, transition_of, transition_data, idle_list, known_mode};
+ghost use Rattle.refusals.specs.Number.{number_in, refusal_number};
+ghost use Rattle.refusals.specs.declared.Refusal.{Refusal};
+ghost use Rattle.forms.specs.Forms.{address_data, unit_data, factor_in, factor_of, digit_data, limited_of, earlier, ends_of, transition_data, idle_list, known_mode};
+ghost use Rattle.forms.specs.Told.{by_name, between_by, transition_by};
 ghost use Rattle.forms.specs.Judged.{Judges};
 ghost use Rattle.forms.specs.Inner.{StreamRead};
 
@@ -16,12 +18,58 @@ use refusals::Refusal;
 use settings::{Key, PressureUnit, Setting, Settings, Transition};
 use sources::{Profile, Sources, WithSources};
 
-// The numbers of ST's data: neither form, one number, or two. (Three cases, so no Option.)
+// The numbers of ST's data: neither form, one number, or two. (Three cases, so no Option.) A number may be refused, by name or, as `Ends<u8>`, with any number.
 #[derive(Clone, Copy)]
-pub enum Ends {
+pub enum Ends<E = Refusal> {
     None,
-    One(Result<Number, Refusal>),
-    Two(Result<Number, Refusal>, Result<Number, Refusal>),
+    One(Result<Number, E>),
+    Two(Result<Number, E>, Result<Number, E>),
+}
+
+// What tells a refusal: its name, or document 01's number.
+pub trait TellsRefusal: Copy {
+    // how a refusal of document 01 is told
+    ghost told: { Refusal → Self };
+
+    // which of two refusals is told
+    ghost of_two: { Self → Self → Self };
+
+    fn told(k: Refusal) -> Self
+        ensures { result ≡ told k };
+
+    fn of_two(self, other: Self) -> Self
+        ensures { result ≡ of_two self other };
+}
+
+// By its name; of two the one with the lesser number.
+#[tactic(auto, unfolding(crate::specs::Told::by_name))]
+impl TellsRefusal for Refusal {
+    ghost told = { by_name };
+
+    ghost of_two = { earlier };
+
+    fn told(k: Refusal) -> Refusal {
+        k
+    }
+
+    fn of_two(self, other: Refusal) -> Refusal {
+        earlier(self, other)
+    }
+}
+
+// By its number; of two the lesser one.
+impl TellsRefusal for u8 {
+    ghost told = { refusal_number };
+
+    ghost of_two = { min };
+
+    fn told(k: Refusal) -> u8 {
+        k.number()
+    }
+
+    fn of_two(self, other: u8) -> u8 {
+        if self < other { self } else { other }
+    }
 }
 
 // Whether an address lies within its limits.
@@ -128,19 +176,19 @@ fn earlier(j: Refusal, k: Refusal) -> Refusal
 }
 
 // F and T: the first refusal of either, and then F below T.
-#[tactic(auto, unfolding(crate::specs::Forms::between_of, buffer::specs::First::pick))]
-fn between(low: Result<Number, Refusal>, high: Result<Number, Refusal>) -> Result<Setting, Refusal>
-    ensures { result ≡ between_of low high }
+#[tactic(auto, unfolding(crate::specs::Told::between_by, buffer::specs::First::pick))]
+fn between<E: TellsRefusal>(low: Result<Number, E>, high: Result<Number, E>) -> Result<Setting, E>
+    ensures { result ≡ between_by E.told E.of_two low high }
 {
     match (low, high) {
         (Ok(a), Ok(b)) => {
             if !a.is_below(b) {
-                return Err(Refusal::Logic);
+                return Err(E::told(Refusal::Logic));
             }
             Ok(Setting::Switch(Transition::Between(a, b)))
         }
         (Ok(_), Err(k)) | (Err(k), Ok(_)) => Err(k),
-        (Err(j), Err(k)) => Err(earlier(j, k)),
+        (Err(j), Err(k)) => Err(j.of_two(k)),
     }
 }
 
@@ -166,20 +214,20 @@ pub fn read_ends(profile: Profile, s: &[u8]) -> Ends
     )
 }
 
-// The numbers of ST as a setting.
-#[tactic(auto, unfolding(crate::specs::Forms::transition_of, crate::specs::Forms::direct_of))]
-pub fn judge_ends(ends: Ends) -> Result<Setting, Refusal>
-    ensures { result ≡ transition_of ends }
+// The numbers of ST as a setting. It is refused as its numbers are, by name or with a number.
+#[tactic(auto, unfolding(crate::specs::Told::transition_by, crate::specs::Told::direct_by))]
+pub fn judge_ends<E: TellsRefusal>(ends: Ends<E>) -> Result<Setting, E>
+    ensures { result ≡ transition_by E.told E.of_two ends }
 {
     match ends {
-        Ends::None => Err(Refusal::Syntax),
+        Ends::None => Err(E::told(Refusal::Syntax)),
         Ends::One(n) => Ok(Setting::Switch(Transition::Direct(n?))),
         Ends::Two(low, high) => between(low, high),
     }
 }
 
 // ST.
-#[tactic(auto, unfolding(crate::specs::Forms::transition_data))]
+#[tactic(auto, using(crate::proofs::Told::by_name_is), unfolding(crate::specs::Forms::transition_data))]
 pub fn judge_transition(profile: Profile, s: &[u8]) -> Result<Setting, Refusal>
     ensures { result ≡ transition_data (limits_of profile) s.now }
 {

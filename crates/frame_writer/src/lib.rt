@@ -74,10 +74,12 @@ pub trait Head: Copy {
     fn start(self, count: usize) -> [u8; 8]
         ensures { take SIZE result ≡ start self count };
 
-    // The head and the data of the error frame that answers a request with this head.
-    fn error(self, number: u8) -> (Self, buffer::Text)
+    // The head of the error frame that answers a request with this head, and its data: the first so many of six bytes. (No `Text`: where it is known
+    // that they are six, the frame is written without loops.)
+    fn error(self, number: u8) -> (Self, [u8; 6], usize)
         ensures head { result.0 ≡ error_head number self }
-        ensures data { text_of result.1 ≡ error_data number };
+        ensures data { take result.2 result.1 ≡ error_data number }
+        ensures count { result.2 ≤ 6 };
 
     ghost few: { SIZE ≤ 8 };
 
@@ -137,13 +139,16 @@ impl Head for frames::HeadV2 {
         ]
     }
 
-    fn error(self, number: u8) -> (frames::HeadV2, buffer::Text) {
+    fn error(self, number: u8) -> (frames::HeadV2, [u8; 6], usize) {
         let head = frames::HeadV2 {
             access: b'7',
             ..self
         };
-        let text = error_texts::error_bytes(error_texts::error_of(number));
-        (head, buffer::Text::EMPTY.add(&text))
+        (
+            head,
+            error_texts::error_bytes(error_texts::error_of(number)),
+            6,
+        )
     }
 
     ghost few = { lit≤ tt };
@@ -193,14 +198,14 @@ impl Head for frames::HeadV1 {
         ]
     }
 
-    fn error(self, number: u8) -> (frames::HeadV1, buffer::Text) {
-        let (letter, text) = match number {
-            8 => (b'N', buffer::Text::EMPTY.add(b"O_DEF")),
-            11 => (self.letter, buffer::Text::EMPTY.add(b"_RANGE")),
-            13 => (b'M', buffer::Text::EMPTY.add(b"1")),
-            _ => (self.letter, buffer::Text::EMPTY.add(b"_LOGIC")),
+    fn error(self, number: u8) -> (frames::HeadV1, [u8; 6], usize) {
+        let (letter, text, count) = match number {
+            8 => (b'N', *b"O_DEF ", 5),
+            11 => (self.letter, *b"_RANGE", 6),
+            13 => (b'M', *b"1     ", 1),
+            _ => (self.letter, *b"_LOGIC", 6),
         };
-        (frames::HeadV1 { letter, ..self }, text)
+        (frames::HeadV1 { letter, ..self }, text, count)
     }
 
     ghost few = { lit≤ tt };
@@ -222,7 +227,8 @@ fn refused(k: Refusal) -> buffer::Written
 }
 
 // Writes a frame at the front of out: its head, the data and the end. Refuses with 1 where it does not fit, with 2 where a frame cannot carry them, with
-// 4 where the address lies outside 1 to 999; then out stays as it was.
+// 4 where the address lies outside 1 to 999; then out stays as it was. (Always inlined, for the same reason: docs/PERFORMANCE.md.)
+#[inline(always)]
 pub fn write<H: Head>(out: &mut [u8], head: H, bytes: &[u8]) -> buffer::Written
     ensures { Sent out.old (H.written (length out.old) head bytes.now) out.new result }
 {
@@ -259,6 +265,6 @@ pub fn write_text<H: Head>(out: &mut [u8], head: H, text: buffer::Text) -> buffe
 pub fn write_error<H: Head>(out: &mut [u8], head: H, number: u8) -> buffer::Written
     ensures { Sent out.old (H.written (length out.old) (H.error_head number head) (H.error_data number)) out.new result }
 {
-    let (answer, text) = head.error(number);
-    write_text(out, answer, text)
+    let (answer, text, count) = head.error(number);
+    write(out, answer, &text[..count])
 }

@@ -5,7 +5,7 @@ use mathlib.Core.Bool.{false≢true}
 use borrow.Author.Tests.{lt-leb, not-false}
 use Rattle.buffer.specs.First.{◌⇒◌, pick, first}
 use Rattle.buffer.specs.Byte.{at, within, is_digit, every, numeral_from, numeral}
-use Rattle.buffer.proofs.Laws.{drop_step, within_true, at_past}
+use Rattle.buffer.proofs.Laws.{drop_step, within_true}
 use Rattle.buffer.proofs.Rules.{past, stop, each, flag, not_eqb, not_neqb}
 use Rattle.frames.specs.Checksum.{sum_of, checksum_of}
 use Rattle.frames.specs.Frame.{is_letter, body, sum_byte, last_byte, length_fits, misshapen, wrong_sum, wrong_address, wrong_length, head_v1, head_v2, frame_of}
@@ -97,9 +97,23 @@ module _ (s : List ℕ) (b : ℕ) (h : b ≡ at s 3) where
   unfolding length_fits
   as_other d l = past _ _ _ _ (ap is_digit (sym h) ∙ d) (past _ _ _ _ (ap is_letter (sym h) ∙ l) refl)
 
-pub too_short : (s : List ℕ) → length s ≤ 3 → false ≡ length_fits s
-unfolding length_fits is_letter within pick
-too_short s h = let e : at s 3 ≡ 0 = sym (at_past s 3 h) in rw e
+pub too_short : (s : List ℕ) → length s < 6 → false ≡ length_fits s
+unfolding length_fits
+too_short s h =
+    each
+    (λ (x : Bool). false ≡ x)
+    _
+    _
+    _
+    (λ _. sym (lt-leb 10 (length s) (omega arith)) ∙ out_low 10 109 (length s) (omega arith))
+    (λ _.
+    each
+    (λ (x : Bool). false ≡ x)
+    _
+    _
+    _
+    (λ _. sym (lt-leb 6 (length s) (omega arith)) ∙ out_low 6 12 (length s) (omega arith))
+    (λ _. refl))
 
 -- ---- refusals
 

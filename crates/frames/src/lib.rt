@@ -50,10 +50,11 @@ pub enum Frame {
 }
 
 // Whether a byte is a letter A-Z or a-z.
+#[tactic(auto, using(std::proofs::lemmas::Bool::Decides::nat_tests), unfolding(crate::specs::Frame::is_letter, buffer::specs::Byte::within))]
 pub fn is_letter(b: u8) -> bool
     ensures { result ≡ is_letter b }
 {
-    b.is_ascii_alphabetic()
+    matches!(b, b'A'..=b'Z' | b'a'..=b'z')
 }
 
 fn length_fits(s: &[u8]) -> bool

@@ -1,5 +1,5 @@
 -- Document 01, "OPG frames": what any bytes ask of the gauge, by the first rule that applies, and what they change.
-use Rattle.std.specs.Prelude.{Bool, true, false, ◌&&◌, List, [], ◌∷◌, ◌++◌, ℕ, ltb, Ok, Err}
+use Rattle.std.specs.Prelude.{Bool, true, false, ◌&&◌, List, [], ◌∷◌, ◌++◌, ℕ, ltb, Ok, Err, Result}
 use Rattle.buffer.specs.First.{◌⇒◌, first}
 use Rattle.opg_commands.specs.Settings.{entered}
 use Rattle.opg_frames.specs.declared.Refusal.TheVariants.{Room}
@@ -30,7 +30,7 @@ judgement room g s =
     ++ (unavailable g (meaning s) ⇒ error byte.Unavailable ∷ []))
     (Ok (meaning s))
 
--- the gauge after a request: a refused request changes nothing, and no request changes the pressure
-unfoldable pub after : Gauge → Asked → Gauge
+-- the gauge after a request: a refused request changes nothing, whatever the refusal tells, and no request changes the pressure
+unfoldable pub after : {E : Type 0} → Gauge → Result Request E → Gauge
 after g (Ok r) = record { settings = entered g.settings r; pressure = g.pressure }
 after g (Err d) = g

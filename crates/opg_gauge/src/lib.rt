@@ -85,9 +85,9 @@ impl Gauge {
         }
     }
 
-    // The gauge after a request.
+    // The gauge after a request, whatever a refusal tells.
     #[tactic(auto, unfolding(crate::specs::Judged::after))]
-    pub fn entered(self, asked: Result<Request, Denied>) -> Gauge
+    pub fn entered<E: Copy>(self, asked: Result<Request, E>) -> Gauge
         ensures { result ≡ after self asked }
     {
         let Ok(r) = asked else {

@@ -80,7 +80,7 @@ fn perform(world: &mut World, call: Call, memory: &mut [u8]) -> Shown {
             from,
             request,
             reply,
-        } => reply_words::read(profile, from, request, reply),
+        } => reply_words::read(profile, usize::from(from), request, reply),
         Call::OpgReply { request, reply } => reply_words::read_opg(request, reply),
         Call::Write { request, .. } => request_words::write(request, memory),
     }

@@ -140,6 +140,10 @@ pub error_found : (s : List ℕ) → reply_of (find (λ (e : ErrorText). same_te
 unfolding error_reply
 error_found s = first_found s errors
 
+-- and what was found with it
+pub error_read : (s : List ℕ) (found : Option ErrorText) → found ≡ find (λ (e : ErrorText). same_text s (error_bytes e)) errors → error_reply s ≡ reply_of found
+error_read s found h = sym (error_found s) ∙ ap reply_of (sym h)
+
 -- ---- what a reader answers
 
 abbrev Answer : Type 0

@@ -61,6 +61,7 @@ fn error_in(s: &[u8]) -> Option<ErrorText>
 }
 
 // The data of a reply that refuses: one of the six error texts.
+#[tactic(auto, using(crate::proofs::Laws::error_read))]
 fn read_error(s: &[u8]) -> Result<ReplyV2, Refusal>
     ensures { result ≡ error_reply s.now }
 {

@@ -72,7 +72,7 @@ both_ends (Err j) (Ok high) = Err j
 both_ends (Err j) (Err k) = Err (earlier j k)
 
 -- "`D` number, or `F` number `T` number"
-unfoldable pub transition_reply : Ends → Result ReplyV2 Refusal
+unfoldable pub transition_reply : Ends Refusal → Result ReplyV2 Refusal
 transition_reply Ends.None = Err Refusal.Syntax
 transition_reply (Ends.One n) = held_reply (direct_of n)
 transition_reply (Ends.Two low high) = both_ends low high

@@ -126,7 +126,7 @@ fn both_ends(
 }
 
 // ST.
-#[tactic(auto, unfolding(crate::specs::Value::transition_reply, crate::specs::Value::held_reply, forms::specs::Forms::transition_of))]
+#[tactic(auto, using(forms::proofs::Told::by_name_is), unfolding(crate::specs::Value::transition_reply, crate::specs::Value::held_reply, forms::specs::Forms::transition_of))]
 fn transition_in(ends: Ends) -> Result<ReplyV2, Refusal>
     ensures { result ≡ transition_reply ends }
 {

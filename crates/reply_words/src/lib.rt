@@ -146,8 +146,9 @@ fn refused(number: u16) -> Shown {
 }
 
 // A text gauge's reply to a request, which came from this address. Both are read as a profile's.
-pub fn read(profile: Profile, from: u16, request: &[u8], reply: &[u8]) -> Shown {
-    match read_text(profile, from, request, reply) {
+pub fn read(profile: Profile, from: usize, request: &[u8], reply: &[u8]) -> Shown {
+    let address = (from % 65536) as u16;
+    match read_text(profile, address, request, reply) {
         Ok(shown) => shown,
         Err(k) => refused(u16::from(k.number())),
     }

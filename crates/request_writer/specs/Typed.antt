@@ -32,7 +32,7 @@ unfoldable pub limited_number : ProfileLimits → Number → Result Number Refus
 limited_number limits n = limited_of limits (normal_of (exactly n))
 
 -- VSH and VSM "accept only the `D` form of ST": the other one is none of theirs
-unfoldable pub ends_in : ProfileLimits → Transition → Ends
+unfoldable pub ends_in : ProfileLimits → Transition → Ends Refusal
 ends_in limits (Direct n) = One (limited_number limits n)
 ends_in limits (Between low high) = pick limits.between_form (Two (limited_number limits low) (limited_number limits high)) None
 

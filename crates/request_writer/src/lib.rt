@@ -101,7 +101,7 @@ fn digit_verdict(x: Setting, d: Result<u8, Refusal>) -> Result<Setting, Refusal>
 }
 
 // A typed write to a gauge of this profile: the setting with its numbers canonical, or the first refusal that applies.
-#[tactic(auto, unfolding(crate::specs::Typed::typed_verdict))]
+#[tactic(auto, using(forms::proofs::Told::by_name_is), unfolding(crate::specs::Typed::typed_verdict))]
 pub fn judge_setting(
     profile: sources::Profile,
     x: Setting,

@@ -130,7 +130,7 @@ unfolding transition_data ends_of transition_of
 transition_told limits s =
     let t = drop 1 s in
     let k = until_of 84 t in
-    let P : Ends → Type 0 = λ (e : Ends). Told (transition_of e) in
+    let P : Ends Refusal → Type 0 = λ (e : Ends Refusal). Told (transition_of e) in
     each P (starts_with 68 s) (Ends.One (limited_of limits (number_of t))) _ (λ _. direct_told _ (limited_passed limits (number_of t)))
     (λ _. each P (not (starts_with 70 s && limits.between_form)) Ends.None _ (λ _. syntax)
     (λ _. each P (leb (length t) k) Ends.None _ (λ _. syntax)

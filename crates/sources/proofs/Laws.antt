@@ -2,17 +2,17 @@
 use mathlib.Core.Path.{◌≡◌, refl, sym, ◌∙◌}
 use mathlib.Core.Bool.{Bool, true, false, not, ◌&&◌, ◌||◌}
 use mathlib.Core.List.{List, [], ◌∷◌}
-use Prim.Native.Nat.{ℕ, zero, suc, ◌+◌, ◌-◌, ◌*◌, ◌≤◌, ◌<◌}
+use Prim.Native.Nat.{ℕ, zero, suc, ◌+◌, ◌*◌, ◌≤◌, ◌<◌}
 use native.Mathlib.Omega.{arith}
 use borrow.Author.Tests.{lt-leb, eq-eqb, ne_eqb, eqb-true}
 use lib.Dec.{eqb, leb}
-use lib.ListN.{length, get_or, set, take, length-append, length-take, length-set, drop}
+use lib.ListN.{length, get_or, set, take, length-append, length-take, length-drop, length-set, drop}
 use lib.Seq.{take_all}
 use Rattle.std.specs.List.{list_any, slice_split, onto_first}
 use Rattle.buffer.specs.Byte.{within, is_digit, every, digit}
 use Rattle.buffer.specs.First.{pick}
 use Rattle.buffer.proofs.Rules.{each}
-use Rattle.buffer.proofs.Laws.{within_true, filled, full, drop_step, part_rest}
+use Rattle.buffer.proofs.Laws.{within_true, filled, full, drop_step}
 use Rattle.sources.specs.Source.{among, all_differ, is_source, source_text, list_text, list_of, Counted, Pushed}
 use Rattle.sources.specs.declared.Sources.{Sources}
 use Rattle.sources.specs.Theorems.{CountFixed}
@@ -127,9 +127,9 @@ pub contained : (s : List ℕ) (c : ℕ) (r v : Bool) → r ≡ list_any (λ d. 
 contained s c r v e h = sym (among_any s c) ∙ sym e ∙ h
 
 -- whether the first of what is left stands again
-pub differ_step : (s : List ℕ) (i : ℕ) (r v : Bool) → i < length s → r ≡ list_any (λ d. eqb d (get_or s i 0)) (take (length s - (i + 1)) (drop (i + 1) s)) → r ≡ v
+pub differ_step : (s : List ℕ) (i n : ℕ) (r v : Bool) → i < length s → length s ≤ i + 1 + n → r ≡ list_any (λ d. eqb d (get_or s i 0)) (take n (drop (i + 1) s)) → r ≡ v
     → all_differ (drop i s) ≡ (not v && all_differ (drop (i + 1) s))
 unfolding all_differ
-differ_step s i r v h e k =
-    let again : among (drop (i + 1) s) (get_or s i 0) ≡ v = contained _ _ r v (rw part_rest at e) k in
+differ_step s i n r v h m e k =
+    let again : among (drop (i + 1) s) (get_or s i 0) ≡ v = contained _ _ r v (rw (take_all n (drop (i + 1) s) (simp length-drop (omega arith))) at e) k in
     rw (drop_step s i h, again)

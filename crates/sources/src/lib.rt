@@ -113,7 +113,8 @@ pub fn offers(profile: Profile, c: u8) -> bool
 {
     match profile {
         Profile::Standard => KNOWN.contains(&c),
-        Profile::Vsh | Profile::Vsm => HOT.contains(&c),
+        Profile::Vsh => HOT.contains(&c),
+        Profile::Vsm => HOT.contains(&c),
     }
 }
 

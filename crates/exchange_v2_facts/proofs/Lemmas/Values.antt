@@ -87,7 +87,7 @@ between_held (Ok low) (Err k) x e = absurd (let z : ◌≡◌ {A = ℕ} 0 1 = cc
 between_held (Err j) (Ok high) x e = absurd (let z : ◌≡◌ {A = ℕ} 0 1 = cc in omega arith)
 between_held (Err j) (Err k) x e = absurd (let z : ◌≡◌ {A = ℕ} 0 1 = cc in omega arith)
 
-transition_held : (t : Ends) (x : Setting) → transition_of t ≡ Ok x → transition_reply t ≡ Ok (Holds x)
+transition_held : (t : Ends Refusal) (x : Setting) → transition_of t ≡ Ok x → transition_reply t ≡ Ok (Holds x)
 unfolding transition_of transition_reply held_reply
 transition_held None x e = absurd (let z : ◌≡◌ {A = ℕ} 0 1 = cc in omega arith)
 transition_held (One n) x e = ap held_reply e

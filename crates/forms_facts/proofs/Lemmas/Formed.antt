@@ -154,7 +154,7 @@ unfolding transition_data ends_of transition_of
 transition_formed limits s =
     let t = drop 1 s in
     let k = until_of 84 t in
-    let P : Ends → Type 0 = λ (e : Ends). Formed limits ST s (transition_of e) in
+    let P : Ends Refusal → Type 0 = λ (e : Ends Refusal). Formed limits ST s (transition_of e) in
     each P (starts_with 68 s) (One (limited_of limits (number_of t))) _
     (λ e. direct_formed limits s t _ (starts 68 s e (starts_some 67 s e)) (limited_reads limits t))
     (λ _. each P (not (starts_with 70 s && limits.between_form)) Ends.None _ (λ _. tt)

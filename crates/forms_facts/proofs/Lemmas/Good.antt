@@ -107,7 +107,7 @@ unfolding transition_data ends_of transition_of
 transition_good limits s =
     let t = drop 1 s in
     let k = until_of 84 t in
-    let P : Ends → Type 0 = λ (e : Ends). Good limits (transition_of e) in
+    let P : Ends Refusal → Type 0 = λ (e : Ends Refusal). Good limits (transition_of e) in
     each P (starts_with 68 s) (One (limited_of limits (number_of t))) _ (λ _. direct_good limits _ (limited_passed limits t))
     (λ _. each P (not (starts_with 70 s && limits.between_form)) Ends.None _ (λ _. tt)
     (λ f. each P (leb (length t) k) Ends.None _ (λ _. tt)

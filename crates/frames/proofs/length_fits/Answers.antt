@@ -1,5 +1,6 @@
 -- `frames::length_fits` meets its contract.
 use Rattle.std.proofs.Common.{sym, ◌∙◌}
+use native.Mathlib.Omega.{arith}
 use borrow.Author.Tests.{ltb-false}
 use Rattle.buffer.specs.Byte.{within}
 use Rattle.frames.proofs.Laws.{in_low, out_low, as_v2, as_v1, as_other, too_short}
@@ -26,4 +27,4 @@ unfolding within
 returns-in_default c = as_other c.args.s.now c.in-Some.b.now (c.in-Some.ensures.lookup.3.1 0) (sym c.is_ascii_digit.ensures.value ∙ c.if-is_ascii_digit.false) (sym c.is_letter.ensures ∙ c.if-is_letter.false)
 
 pub returns-in_default-2 : goal.returns-in_default-2
-returns-in_default-2 c = let e = rw c.in_default.is at c.get.ensures.lookup.0 in too_short c.args.s.now (ltb-false _ _ (sym e))
+returns-in_default-2 c = let e = rw c.in_default.is at c.get.ensures.lookup.0 in too_short c.args.s.now (omega (arith, ltb-false _ _ (sym e)))

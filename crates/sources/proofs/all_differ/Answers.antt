@@ -11,10 +11,10 @@ pub loop-i-init : goal.loop-i-init
 loop-i-init c = refl
 
 pub returns-then-contains : goal.returns-then-contains
-returns-then-contains c = let l = c.loop-i in sym (differ_step c.args.codes.now l.i _ true (omega arith) c.contains.ensures.value c.if-contains.true) ∙ l.invariant
+returns-then-contains c = let l = c.loop-i in sym (differ_step c.args.codes.now l.i _ _ true (omega arith) (omega arith) c.contains.ensures.value c.if-contains.true) ∙ l.invariant
 
 pub loop-i-preserved : goal.loop-i-preserved
-loop-i-preserved c = let l = c.loop-i in sym (differ_step c.args.codes.now l.i _ false (omega arith) c.contains.ensures.value c.if-contains.false) ∙ l.invariant
+loop-i-preserved c = let l = c.loop-i in sym (differ_step c.args.codes.now l.i _ _ false (omega arith) (omega arith) c.contains.ensures.value c.if-contains.false) ∙ l.invariant
 
 pub returns : goal.returns
 unfolding all_differ

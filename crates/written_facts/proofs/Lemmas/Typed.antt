@@ -133,7 +133,7 @@ module _ (limits : ProfileLimits) (list : List ℕ) where
   unfolding transition_of ends_in
   transition_told (Direct n) = direct_told n (limited_number limits n) (passed limits n)
   transition_told (Between a b) =
-      each (λ (e : Ends). Told limits (Switch (Between a b)) list (transition_of e)) limits.between_form (Two (limited_number limits a) (limited_number limits b)) None
+      each (λ (e : Ends Refusal). Told limits (Switch (Between a b)) list (transition_of e)) limits.between_form (Two (limited_number limits a) (limited_number limits b)) None
       (λ f. between_told a b (limited_number limits a) (limited_number limits b) f (passed limits a) (passed limits b)) (λ _. omega arith)
 
   -- one digit, over the largest

@@ -57,27 +57,29 @@ impl Text {
     };
 
     // The text and one character more. A full text stays as it is.
-    pub fn push(mut self, b: u8) -> Text
+    pub fn push(self, b: u8) -> Text
         ensures { text_of result ≡ cut (text_of self ++ (b ∷ [])) }
     {
-        if self.len < Text::MOST {
-            self.bytes[self.len] = b;
-            self.len += 1;
+        let Text { mut bytes, mut len } = self;
+        if len < Text::MOST {
+            bytes[len] = b;
+            len += 1;
         }
-        self
+        Text { bytes, len }
     }
 
     // The text and then all of src, as far as it holds them.
-    pub fn add(mut self, src: &[u8]) -> Text
+    pub fn add(self, src: &[u8]) -> Text
         ensures { text_of result ≡ cut (text_of self ++ src.now) }
     {
+        let Text { mut bytes, mut len } = self;
         for b in src {
-            if self.len < Text::MOST {
-                self.bytes[self.len] = *b;
-                self.len += 1;
+            if len < Text::MOST {
+                bytes[len] = *b;
+                len += 1;
             }
         }
-        self
+        Text { bytes, len }
     }
 
     // The text and then another, as far as it holds them.

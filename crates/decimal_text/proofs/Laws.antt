@@ -2,9 +2,9 @@
 use mathlib.Core.Path.{◌≡◌, refl}
 use mathlib.Core.Bool.{Bool, true, false, cond, ◌&&◌}
 use mathlib.Core.List.{List, [], ◌∷◌, ◌++◌}
-use Prim.Native.Nat.{ℕ, zero, suc, ◌+◌, ◌-◌, ◌/◌, ◌<◌, ◌≤◌}
+use Prim.Native.Nat.{ℕ, zero, suc, ◌+◌, ◌-◌, ◌/◌, ◌%◌, ◌<◌, ◌≤◌}
 use native.Mathlib.Omega.{arith}
-use borrow.Author.Tests.{lt-ltb, ne_eqb}
+use borrow.Author.Tests.{lt-ltb, ne_eqb, eqb-true, ltb-false}
 use lib.Dec.{eqb, ltb}
 use lib.ListN.{length, take, length-append, length-take}
 use Rattle.std.proofs.lemmas.Bool.Decides.{nat_tests}
@@ -42,6 +42,43 @@ pub pointed_some : (x : ℕ) (s : List ℕ) (k : ℕ) → 0 < k → pointed (tak
 unfolding pointed
 pointed_some x s zero h = absurd (omega arith)
 pointed_some x s (suc k) h = refl
+
+-- a text with no significant digit: its first is `0`, and no other is significant
+none_significant : (x : ℕ) (s : List ℕ) → significant (x ∷ s) ≡ 0 → (x ≡ 48) × (significant s ≡ 0)
+unfolding significant
+none_significant x s =
+    each (λ (n : ℕ). n ≡ 0 → (x ≡ 48) × (significant s ≡ 0)) (ltb 0 (significant s)) (significant s + 1) (pick (eqb x 48) 0 1)
+    (λ _ e. absurd (omega arith))
+    (λ t. each (λ (n : ℕ). n ≡ 0 → (x ≡ 48) × (significant s ≡ 0)) (eqb x 48) 0 1 (λ u _. (eqb-true x 48 u, omega (arith, ltb-false 0 (significant s) t))) (λ _ e. absurd (omega arith)))
+
+-- a mantissa whose last five digits make 0 has none left, any other has some
+pub none_left : (m : ℕ) → m % 100000 ≡ 0 → trimmed (digits5 m) ≡ []
+unfolding trimmed
+none_left m h =
+    let a : digit (m / 10000) ≡ 48 = omega arith in
+    let b : digit (m / 1000) ≡ 48 = omega arith in
+    let c : digit (m / 100) ≡ 48 = omega arith in
+    let d : digit (m / 10) ≡ 48 = omega arith in
+    let e : digit m ≡ 48 = omega arith in
+    rw (a, b, c, d, e)
+
+pub some_left : (m : ℕ) → (m % 100000 ≡ 0 → ⊥) → 0 < significant (digits5 m)
+some_left m h = go (significant (digits5 m)) refl
+  where
+    go : (n : ℕ) → significant (digits5 m) ≡ n → 0 < n
+    go (suc n) e = omega arith
+    go zero e =
+        let a = none_significant (digit (m / 10000)) _ e in
+        let b = none_significant (digit (m / 1000)) _ a.1 in
+        let c = none_significant (digit (m / 100)) _ b.1 in
+        let d = none_significant (digit (m / 10)) _ c.1 in
+        let f = none_significant (digit m) [] d.1 in
+        absurd (h (omega (arith, a.0, b.0, c.0, d.0, f.0)))
+
+-- 0 is its first digit alone
+pub zero_sent : (digit (0 / 100000) ∷ []) ++ pointed (trimmed (digits5 0)) ≡ 48 ∷ []
+unfolding trimmed pointed
+zero_sent = refl
 
 -- ---- lengths
 
@@ -107,4 +144,4 @@ two_le negative h = simp length-append (omega (arith, whole_le (h / 100), sign_o
 -- for a text that grows
 pub ruleset grown = (nat_tests, cut_cut, cut_fits, append_assoc)
 
-pub ruleset fraction = (nat_tests, cut_cut, append_assoc, trim_front, pointed_some, significant_le, length-take)
+pub ruleset fraction = (nat_tests, cut_cut, append_assoc, trim_front, pointed_some, none_left, some_left, significant_le, length-take)

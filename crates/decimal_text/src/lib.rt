@@ -1,6 +1,6 @@
 #![tactic(auto)]
 // Decimal numbers as they are sent (document 01, "Decimal numbers"): the written form, and the form with two decimals.
-ghost use Rattle.std.specs.Prelude.{◌≡◌, [], ◌∷◌, ◌++◌, cond, eqb};
+ghost use Rattle.std.specs.Prelude.{◌≡◌, [], ◌∷◌, ◌++◌, ◌/◌, cond, eqb};
 ghost use Rattle.buffer.specs.Byte.{digit};
 ghost use Rattle.buffer.specs.Text.{text_of, cut};
 ghost use Rattle.decimal_text.specs.Written.{sign_text, trimmed, pointed, digits5, exponent_text, written_of, whole_text, two_decimals};
@@ -31,48 +31,54 @@ fn sign(negative: bool) -> buffer::Text
     }
 }
 
-// The text t, then the point and the further digits of a mantissa, if any are left after trailing zeros go.
+// The text t, then the first digit of a mantissa, and the point and the further digits, if any are left after trailing zeros go. (This one and the
+// next are never inlined: their texts would be handed on byte by byte. docs/PERFORMANCE.md)
 #[tactic(auto, using(crate::proofs::Laws::fraction), unfolding(crate::specs::Written::pointed))]
-fn with_fraction(t: buffer::Text, m: u32) -> buffer::Text
-    ensures { text_of result ≡ cut (text_of t ++ pointed (trimmed (digits5 m))) }
+#[inline(never)]
+fn with_mantissa(t: buffer::Text, m: u32) -> buffer::Text
+    ensures { text_of result ≡ cut (text_of t ++ ((digit (m / 100000) ∷ []) ++ pointed (trimmed (digits5 m)))) }
 {
+    let first = digit(m / 100000);
+    if m % 100000 == 0 {
+        return t.push(first);
+    }
     let digits = [
+        first,
+        b'.',
         digit(m / 10000),
         digit(m / 1000),
         digit(m / 100),
         digit(m / 10),
         digit(m),
     ];
-    let k = decimal::count_significant(&digits);
-    let t = if k == 0 { t } else { t.push(b'.') };
-    t.add(&digits[..k])
+    let k = decimal::count_significant(&digits[2..]);
+    t.add(&digits[..k + 2])
 }
 
 // The text t, then `e` and the exponent of a place.
 #[tactic(auto, using(crate::proofs::Laws::grown), unfolding(crate::specs::Written::exponent_text))]
+#[inline(never)]
 fn with_exponent(t: buffer::Text, place: u8) -> buffer::Text
     ensures { text_of result ≡ cut (text_of t ++ ((101 ∷ []) ++ exponent_text place)) }
 {
-    let t = t.push(b'e');
     let place = place as u32;
     if place < 9 {
-        t.push(b'-').push(digit(9 - place))
-    } else {
-        t.push(digit(place - 9))
+        return t.add(&[b'e', b'-', digit(9 - place)]);
     }
+    t.add(&[b'e', digit(place - 9)])
 }
 
-// A number as it is sent.
-#[tactic(auto, using(crate::proofs::Laws::grown, crate::proofs::Laws::written_fits), unfolding(crate::specs::Written::written_of, buffer::specs::First::pick))]
+// A number as it is sent: 0 has no sign and no exponent.
+#[tactic(auto, using(crate::proofs::Laws::grown, crate::proofs::Laws::written_fits, crate::proofs::Laws::zero_sent), unfolding(crate::specs::Written::written_of, crate::specs::Written::sign_text, buffer::specs::First::pick))]
 pub fn written(n: decimal::Number) -> buffer::Text
     ensures { text_of result ≡ written_of n }
 {
     let m = n.mantissa;
+    let t = with_mantissa(sign(n.negative && m != 0), m);
     if m == 0 {
-        return one(b'0');
+        return t;
     }
-    let t = sign(n.negative).push(digit(m / 100000));
-    with_exponent(with_fraction(t, m), n.place)
+    with_exponent(t, n.place)
 }
 
 // The text t, then a number below 1000 with no needless leading zero.

@@ -2,23 +2,22 @@
 use mathlib.Core.Path.{◌≡◌, sym, ◌∙◌}
 use mathlib.Core.List.{[], ◌∷◌, ◌++◌, append_assoc, append-nil}
 use native.Mathlib.Omega.{arith}
-use lib.ListN.{length, get_or, drop_of_length-le, length-take, length-set}
+use lib.ListN.{length, get_or, take, drop_of_length-le, length-take, length-set}
 use Rattle.buffer.specs.Text.{text_of, cut}
 use Rattle.buffer.proofs.Laws.{cut_cut, cut_fits, drop_step, filled, full}
 use Rattle.buffer.proofs.Text.add.Goals as goal
-use Rattle.buffer.proofs.Text.add.Goals.{then-self-lt-MOST, else-self-lt-MOST}
+use Rattle.buffer.proofs.Text.add.Goals.{then-len-lt-MOST, else-len-lt-MOST}
 
 pub loop-b-preserved : goal.loop-b-preserved
-unfolding text_of cut
+unfolding cut
 loop-b-preserved c =
     let l = c.loop-b in
-    let t = l.self in
     let s = c.args.src.now in
     let b = get_or s l.b-index 0 in
-    let more : (length c.if-self-lt-MOST.self.bytes ≡ 24) × (text_of c.if-self-lt-MOST.self ≡ cut (text_of t ++ (b ∷ []))) =
-    elim c.if-self-lt-MOST.branch [
-      | then-self-lt-MOST w ↦ rw w.self-is (simp length-set l.invariant.0, filled t.bytes t.len 24 b l.invariant.0 w.if-self-lt-MOST.true)
-      | else-self-lt-MOST w ↦ rw w.self-is (l.invariant.0, full t.bytes t.len 24 b l.invariant.0 w.if-self-lt-MOST.false)
+    let more : (length c.if-len-lt-MOST.bytes ≡ 24) × (take c.if-len-lt-MOST.len c.if-len-lt-MOST.bytes ≡ cut (take l.len l.bytes ++ (b ∷ []))) =
+    elim c.if-len-lt-MOST.branch [
+      | then-len-lt-MOST w ↦ rw (w.bytes-is, w.len-is) (simp length-set l.invariant.0, filled l.bytes l.len 24 b l.invariant.0 w.if-len-lt-MOST.true)
+      | else-len-lt-MOST w ↦ rw (w.bytes-is, w.len-is) (l.invariant.0, full l.bytes l.len 24 b l.invariant.0 w.if-len-lt-MOST.false)
     ] in
     (more.0, rw (more.1, cut_cut, append_assoc) (rw (drop_step s l.b-index (omega arith)) at l.invariant.1))
 
@@ -27,4 +26,4 @@ unfolding text_of
 returns c =
     let l = c.loop-b in
     let s = c.args.src.now in
-    sym (cut_fits (text_of l.self) (simp length-take (omega arith))) ∙ rw (drop_of_length-le s {i = l.b-index} (omega arith), append-nil) at l.invariant.1
+    sym (cut_fits (take l.len l.bytes) (simp length-take (omega arith))) ∙ rw (drop_of_length-le s {i = l.b-index} (omega arith), append-nil) at l.invariant.1

@@ -74,18 +74,26 @@ pub trait Head: Copy {
     fn start(self, count: usize) -> [u8; 8]
         ensures { take SIZE result ≡ start self count };
 
-    // The head of the error frame that answers a request with this head, and its data: the first so many of six bytes. (No `Text`: where it is known
-    // that they are six, the frame is written without loops.)
-    fn error(self, number: u8) -> (Self, [u8; 6], usize)
+    // The head and the data of the error frame that answers a request with this head.
+    fn error(self, number: u8) -> (Self, buffer::Text)
         ensures head { result.0 ≡ error_head number self }
-        ensures data { take result.2 result.1 ≡ error_data number }
-        ensures count { result.2 ≤ 6 };
+        ensures data { text_of result.1 ≡ error_data number };
 
     ghost few: { SIZE ≤ 8 };
 
     ghost size_is: { (h : Self) (count : ℕ) → length (start h count) ≡ SIZE };
 
     ghost written_is: { (room : ℕ) (h : Self) (bytes : List ℕ) → written room h bytes ≡ frame_written room (carries h bytes) (address h) (closed (start h (length bytes) ++ bytes)) };
+}
+
+// A head whose error data have at most six bytes, as those of V2 and V1.
+pub trait ShortError: Head {
+    // The head of the error frame that answers a request with this head, and its data: the first so many of six bytes. (No `Text`: where it is known
+    // that they are six, the frame is written without loops.)
+    fn short_error(self, number: u8) -> (Self, [u8; 6], usize)
+        ensures head { result.0 ≡ Self.error_head number self }
+        ensures data { take result.2 result.1 ≡ Self.error_data number }
+        ensures count { result.2 ≤ 6 };
 }
 
 // The last digit of n.
@@ -139,7 +147,21 @@ impl Head for frames::HeadV2 {
         ]
     }
 
-    fn error(self, number: u8) -> (frames::HeadV2, [u8; 6], usize) {
+    fn error(self, number: u8) -> (frames::HeadV2, buffer::Text) {
+        let (head, bytes, count) = self.short_error(number);
+        (head, buffer::Text::EMPTY.add(&bytes[..count]))
+    }
+
+    ghost few = { lit≤ tt };
+
+    ghost size_is = { size_is_v2 };
+
+    ghost written_is = { written_is_v2 };
+}
+
+#[tactic(auto, unfolding(crate::specs::Error::error_head_v2))]
+impl ShortError for frames::HeadV2 {
+    fn short_error(self, number: u8) -> (frames::HeadV2, [u8; 6], usize) {
         let head = frames::HeadV2 {
             access: b'7',
             ..self
@@ -150,12 +172,6 @@ impl Head for frames::HeadV2 {
             6,
         )
     }
-
-    ghost few = { lit≤ tt };
-
-    ghost size_is = { size_is_v2 };
-
-    ghost written_is = { written_is_v2 };
 }
 
 #[tactic(auto, unfolding(crate::specs::Start::start_v1, crate::specs::Written::carries_v1, crate::specs::Error::error_head_v1, crate::specs::Error::error_letter_v1, crate::specs::Error::error_data_v1, error_texts::specs::Texts::error_bytes, buffer::specs::First::pick, buffer::specs::Text::text_of, buffer::specs::Text::cut))]
@@ -198,7 +214,21 @@ impl Head for frames::HeadV1 {
         ]
     }
 
-    fn error(self, number: u8) -> (frames::HeadV1, [u8; 6], usize) {
+    fn error(self, number: u8) -> (frames::HeadV1, buffer::Text) {
+        let (head, bytes, count) = self.short_error(number);
+        (head, buffer::Text::EMPTY.add(&bytes[..count]))
+    }
+
+    ghost few = { lit≤ tt };
+
+    ghost size_is = { size_is_v1 };
+
+    ghost written_is = { written_is_v1 };
+}
+
+#[tactic(auto, unfolding(crate::specs::Error::error_head_v1, crate::specs::Error::error_letter_v1, crate::specs::Error::error_data_v1, error_texts::specs::Texts::error_bytes, buffer::specs::First::pick))]
+impl ShortError for frames::HeadV1 {
+    fn short_error(self, number: u8) -> (frames::HeadV1, [u8; 6], usize) {
         let (letter, text, count) = match number {
             8 => (b'N', *b"O_DEF ", 5),
             11 => (self.letter, *b"_RANGE", 6),
@@ -207,12 +237,6 @@ impl Head for frames::HeadV1 {
         };
         (frames::HeadV1 { letter, ..self }, text, count)
     }
-
-    ghost few = { lit≤ tt };
-
-    ghost size_is = { size_is_v1 };
-
-    ghost written_is = { written_is_v1 };
 }
 
 // The answer of a refusal: its number, and nothing written.
@@ -265,6 +289,76 @@ pub fn write_text<H: Head>(out: &mut [u8], head: H, text: buffer::Text) -> buffe
 pub fn write_error<H: Head>(out: &mut [u8], head: H, number: u8) -> buffer::Written
     ensures { Sent out.old (H.written (length out.old) (H.error_head number head) (H.error_data number)) out.new result }
 {
-    let (answer, text, count) = head.error(number);
+    let (answer, text) = head.error(number);
+    write_text(out, answer, text)
+}
+
+// The same for a head whose error data are short, without a `Text` between. The gauge writes its error frames so.
+pub fn write_short_error<H: ShortError>(out: &mut [u8], head: H, number: u8) -> buffer::Written
+    ensures { Sent out.old (H.written (length out.old) (H.error_head number head) (H.error_data number)) out.new result }
+{
+    let (answer, text, count) = head.short_error(number);
     write(out, answer, &text[..count])
+}
+
+#[cfg(test)]
+mod tests {
+    use super::*;
+
+    // The error frames of document 01's table, their checksums added up apart from this code; the memory behind a frame keeps its bytes.
+    #[test]
+    fn error_frames_v2(rt: HostRuntime) {
+        let head = frames::HeadV2 {
+            address: 1,
+            access: b'0',
+            first: b'M',
+            second: b'V',
+        };
+        for (number, frame) in [
+            (6, b"0017MV06LENGTHS\r"),
+            (7, b"0017MV06_LOGIC^\r"),
+            (8, b"0017MV06NO_DEF\\\r"),
+            (9, b"0017MV06_LOGIC^\r"),
+            (10, b"0017MV06SYNTAXx\r"),
+            (11, b"0017MV06_RANGE]\r"),
+            (12, b"0017MV06_LOGIC^\r"),
+            (13, b"0017MV06ERROR1L\r"),
+        ] {
+            let mut out = [170; 18];
+            let written = write_error(&mut out, head, number);
+            assert_eq!(rt; written.number, 0, "number {number}");
+            assert_eq!(rt; written.len, 16, "number {number}");
+            assert_eq!(rt; out[..16], frame[..], "number {number}");
+            assert_eq!(rt; out[16..], [170, 170][..], "number {number}");
+        }
+        let (answer, data) = head.error(13);
+        assert_eq!(rt; answer.access, b'7');
+        assert_eq!(rt; data.as_slice(), b"ERROR1".as_slice());
+    }
+
+    #[test]
+    fn error_frames_v1(rt: HostRuntime) {
+        let head = frames::HeadV1 {
+            address: 42,
+            letter: b'C',
+        };
+        for (number, frame) in [
+            (8, b"042NO_DEFa\r".as_slice()),
+            (10, b"042C_LOGICf\r".as_slice()),
+            (11, b"042C_RANGEe\r".as_slice()),
+            (12, b"042C_LOGICf\r".as_slice()),
+            (13, b"042M1T\r".as_slice()),
+        ] {
+            let mut out = [170; 14];
+            let written = write_error(&mut out, head, number);
+            assert_eq!(rt; written.number, 0, "number {number}");
+            assert_eq!(rt; written.len, frame.len(), "number {number}");
+            let (front, rest) = out.split_at(frame.len().min(14));
+            assert_eq!(rt; front, frame, "number {number}");
+            assert_eq!(rt; rest[0], 170, "number {number}");
+        }
+        let (answer, data) = head.error(13);
+        assert_eq!(rt; answer.letter, b'M');
+        assert_eq!(rt; data.as_slice(), b"1".as_slice());
+    }
 }

@@ -19,7 +19,7 @@ ghost use Rattle.text_gauge.specs.Answer.{Answers, Decides, Benches};
 ghost use Rattle.text_gauge.specs.Inner.{Fits, with_number, DecidesV2, DecidesV1};
 
 use buffer::{Answered, BenchAnswer, Written};
-use frame_writer::Head;
+use frame_writer::ShortError;
 use frames::{Frame, HeadV1, HeadV2};
 use gauge_rules::Gauge;
 use readings::Bench;
@@ -42,13 +42,13 @@ pub const ROOM: usize = 64;
 // ---- replies
 
 // Writes the error frame that answers a request with this head.
-fn refuse<H: Head>(out: &mut [u8], head: H, refusal: Refusal) -> Written
+fn refuse<H: ShortError>(out: &mut [u8], head: H, refusal: Refusal) -> Written
     ensures { Sent out.old (with_number (refusal_number refusal) (H.written (length out.old) (H.error_head (refusal_number refusal) head) (H.error_data (refusal_number refusal)))) out.new result }
 {
     let number = refusal.number();
     Written {
         number: number as u16,
-        ..frame_writer::write_error(out, head, number)
+        ..frame_writer::write_short_error(out, head, number)
     }
 }
 

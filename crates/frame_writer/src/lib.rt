@@ -147,6 +147,7 @@ impl Head for frames::HeadV2 {
         ]
     }
 
+    // (V1's is the same two lines: one function for both, over `ShortError`, would lead back to this block.)
     fn error(self, number: u8) -> (frames::HeadV2, buffer::Text) {
         let (head, bytes, count) = self.short_error(number);
         (head, buffer::Text::EMPTY.add(&bytes[..count]))
@@ -251,7 +252,7 @@ fn refused(k: Refusal) -> buffer::Written
 }
 
 // Writes a frame at the front of out: its head, the data and the end. Refuses with 1 where it does not fit, with 2 where a frame cannot carry them, with
-// 4 where the address lies outside 1 to 999; then out stays as it was. (Always inlined, for the same reason: docs/PERFORMANCE.md.)
+// 4 where the address lies outside 1 to 999; then out stays as it was. (Always inlined, so that a short error frame is written without loops: docs/PERFORMANCE.md.)
 #[inline(always)]
 pub fn write<H: Head>(out: &mut [u8], head: H, bytes: &[u8]) -> buffer::Written
     ensures { Sent out.old (H.written (length out.old) head bytes.now) out.new result }
@@ -305,7 +306,8 @@ pub fn write_short_error<H: ShortError>(out: &mut [u8], head: H, number: u8) -> 
 mod tests {
     use super::*;
 
-    // The error frames of document 01's table, their checksums added up apart from this code; the memory behind a frame keeps its bytes.
+    // The error frames of document 01, "Answer numbers of the text gauge", their checksums added up apart from this code; the memory behind a frame
+    // keeps its bytes.
     #[test]
     fn error_frames_v2(rt: HostRuntime) {
         let head = frames::HeadV2 {
